@@ -1,0 +1,5 @@
+pub mod Bit
+pub mod Canon
+pub mod Words
+pub mod Limbs
+pub mod Refusals
