@@ -1,0 +1,81 @@
+-- What the coding calls answer: which line of refusal fits first, and what the caller's word holds then.
+use mathlib.Core.Path.{_≡_}
+use mathlib.Core.Bool.{Bool, true, false, _&&_, cond}
+use mathlib.Core.List.{List, [], _∷_}
+use Prim.Native.Nat.{ℕ, _+_, _^_, _<_, _≤_}
+use lib.Dec.{ltb, leb, eqb}
+use lib.ListN.{length, getD}
+use lib.Seq.{paste}
+use Rattle.std.specs.declared.option.Option.{Option}
+use Rattle.std.specs.declared.option.Option.the-variants.{Some, None}
+use Rattle.std.specs.declared.result.Result.{Result}
+use Rattle.std.specs.declared.result.Result.the-variants.{Ok, Err}
+use Rattle.ternary.specs.declared.digit.Digit.{Digit}
+use Rattle.ternary.specs.declared.refusal.Refusal.{Refusal}
+use Rattle.ternary.specs.declared.word.Word.{Word}
+use Rattle.ternary.specs.Words.{digits}
+use Rattle.ternary.specs.Refusals.{Report, report, told}
+use Rattle.codes.specs.declared.span.Span.{Span}
+use Rattle.codes.specs.Spans.{inField}
+use Rattle.codes.specs.Meaning.{Field, Meaning, noField}
+
+-- the value is one of the field's
+abbrev pub valueOk : Field → ℕ → Bool
+valueOk f v = ltb v (2 ^ f .width)
+
+-- the span stands in the field
+abbrev pub spanOk : Field → Option Span → Bool
+spanOk f b = inField (f .width) b
+
+-- the code accepts the span
+abbrev pub takenOk : Field → Option Span → Bool
+takenOk f None = true
+takenOk f (Some s) = f .accepts s
+
+-- the lowest field, counted from i, whose element does not pass
+abbrev pub firstBad : {X : Type 0} → (Field → X → Bool) → ℕ → List Field → List X → Option ℕ
+firstBad ok i [] xs = None
+firstBad ok i (f ∷ fs) [] = None
+firstBad ok i (f ∷ fs) (x ∷ xs) = cond (ok f x) (firstBad ok (i + 1) fs xs) (Some i)
+
+-- a line of refusal that names a field; where it does not fit, the lines after it decide
+abbrev pub atField : ℕ → Option ℕ → Option Report → Option Report
+atField n None later = later
+atField n (Some i) later = Some (report n i 1)
+
+-- at most 8 fields and 255 digits
+abbrev pub isSmall : Meaning → Bool
+isSmall m = leb (length (m .fields)) 8 && leb (m .size) 255
+
+-- the lines before those that look at single fields: 5, the code is too large for a word; 8, the count of fields isn't the code's
+abbrev pub counted : {X : Type 0} → Meaning → List X → Option Report → Option Report
+counted m xs later = cond (isSmall m) (cond (eqb (length xs) (length (m .fields))) later (Some (report 8 0 1))) (Some (report 5 0 2))
+
+-- why a value list is refused: 5, 8, then 9, a value exceeds its field
+unfoldable pub valuesRefusal : Meaning → List ℕ → Option Report
+valuesRefusal m vs = counted m vs (atField 9 (firstBad valueOk 0 (m .fields) vs) None)
+
+-- why a box is refused: 5, 8, then 9, a low end or a length is outside its field, then 10, the code doesn't accept a span
+unfoldable pub boxRefusal : Meaning → List (Option Span) → Option Report
+boxRefusal m bs = counted m bs (atField 9 (firstBad spanOk 0 (m .fields) bs) (atField 10 (firstBad takenOk 0 (m .fields) bs) None))
+
+-- a check's answer: the refusal, or none
+abbrev pub toldOf : Option Refusal → Option Report
+toldOf None = None
+toldOf (Some e) = Some (told e)
+
+-- A coding call writes the code's digits into the caller's word from digit 1 on, and no other digit.
+-- Where it is refused, the word stays as it was.
+abbrev pub Coded : Option Report → ℕ → List Digit → Word → Word → Result Unit Refusal → Type 0
+Coded refusal size word before after (Ok u) = (refusal ≡ None) × (digits after ≡ paste (digits before) 1 word size)
+Coded refusal size word before after (Err e) = (refusal ≡ Some (told e)) × (after ≡ before)
+
+-- `firstBad` names the lowest field whose element does not pass, or none where all pass
+abbrev pub LowestBad : {X : Type 0} → (Field → X → Bool) → X → List Field → List X → Option ℕ → Type 0
+LowestBad ok z fs xs None = (i : ℕ) → i < length fs → ok (getD fs i noField) (getD xs i z) ≡ true
+LowestBad ok z fs xs (Some i) =
+    (i < length fs) × (ok (getD fs i noField) (getD xs i z) ≡ false) × ((j : ℕ) → j < i → ok (getD fs j noField) (getD xs j z) ≡ true)
+
+abbrev pub Lowest-bad-law : Type 1
+Lowest-bad-law = (X : Type 0) (ok : Field → X → Bool) (z : X) (fs : List Field) (xs : List X) → length xs ≡ length fs
+    → LowestBad ok z fs xs (firstBad ok 0 fs xs) × ((o : Option ℕ) → LowestBad ok z fs xs o → o ≡ firstBad ok 0 fs xs)
