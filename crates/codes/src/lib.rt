@@ -9,3 +9,4 @@ pub mod code;
 pub mod run;
 pub mod plain;
 pub mod fence;
+pub mod joined;
