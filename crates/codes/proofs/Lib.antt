@@ -3,3 +3,4 @@ pub mod Offsets
 pub mod Fences
 pub mod Plains
 pub mod Joins
+pub mod Checks

@@ -38,26 +38,32 @@ firstBad ok i [] xs = None
 firstBad ok i (f ∷ fs) [] = None
 firstBad ok i (f ∷ fs) (x ∷ xs) = cond (ok f x) (firstBad ok (i + 1) fs xs) (Some i)
 
--- a line of refusal that names a field; where it does not fit, the lines after it decide
-abbrev pub atField : ℕ → Option ℕ → Option Report → Option Report
-atField n None later = later
-atField n (Some i) later = Some (report n i 1)
+-- the line of number n, which fits at a field or at none
+abbrev pub atField : ℕ → Option ℕ → Option Report
+atField n None = None
+atField n (Some i) = Some (report n i 1)
+
+-- the first line, or where it does not fit the lines after it
+abbrev pub orElse : Option Report → Option Report → Option Report
+orElse (Some e) later = Some e
+orElse None later = later
 
 -- at most 8 fields and 255 digits
 abbrev pub isSmall : Meaning → Bool
 isSmall m = leb (length (m .fields)) 8 && leb (m .size) 255
 
--- the lines before those that look at single fields: 5, the code is too large for a word; 8, the count of fields isn't the code's
-abbrev pub counted : {X : Type 0} → Meaning → List X → Option Report → Option Report
-counted m xs later = cond (isSmall m) (cond (eqb (length xs) (length (m .fields))) later (Some (report 8 0 1))) (Some (report 5 0 2))
+-- the lines that look at counts alone: 5, the code is too large for a word; 8, n isn't the code's count of fields
+abbrev pub countRefusal : Meaning → ℕ → Option Report
+countRefusal m n = cond (isSmall m) (cond (eqb n (length (m .fields))) None (Some (report 8 0 1))) (Some (report 5 0 2))
 
--- why a value list is refused: 5, 8, then 9, a value exceeds its field
-unfoldable pub valuesRefusal : Meaning → List ℕ → Option Report
-valuesRefusal m vs = counted m vs (atField 9 (firstBad valueOk 0 (m .fields) vs) None)
+-- why a value list is refused: 5, 8, or 9, a value exceeds its field
+abbrev pub valuesRefusal : Meaning → List ℕ → Option Report
+valuesRefusal m vs = orElse (countRefusal m (length vs)) (atField 9 (firstBad valueOk 0 (m .fields) vs))
 
--- why a box is refused: 5, 8, then 9, a low end or a length is outside its field, then 10, the code doesn't accept a span
-unfoldable pub boxRefusal : Meaning → List (Option Span) → Option Report
-boxRefusal m bs = counted m bs (atField 9 (firstBad spanOk 0 (m .fields) bs) (atField 10 (firstBad takenOk 0 (m .fields) bs) None))
+-- why a box is refused: 5, 8, 9, a low end or a length is outside its field, or 10, the code doesn't accept a span
+abbrev pub boxRefusal : Meaning → List (Option Span) → Option Report
+boxRefusal m bs =
+    orElse (countRefusal m (length bs)) (orElse (atField 9 (firstBad spanOk 0 (m .fields) bs)) (atField 10 (firstBad takenOk 0 (m .fields) bs)))
 
 -- a check's answer: the refusal, or none
 abbrev pub toldOf : Option Refusal → Option Report
@@ -76,6 +82,7 @@ LowestBad ok z fs xs None = (i : ℕ) → i < length fs → ok (getD fs i noFiel
 LowestBad ok z fs xs (Some i) =
     (i < length fs) × (ok (getD fs i noField) (getD xs i z) ≡ false) × ((j : ℕ) → j < i → ok (getD fs j noField) (getD xs j z) ≡ true)
 
-abbrev pub Lowest-bad-law : Type 1
-Lowest-bad-law = (X : Type 0) (ok : Field → X → Bool) (z : X) (fs : List Field) (xs : List X) → length xs ≡ length fs
+-- that answer is right, and it is the only one
+abbrev pub Lowest-bad-law : Type 0 → Type 0
+Lowest-bad-law X = (ok : Field → X → Bool) (z : X) (fs : List Field) (xs : List X) → length xs ≡ length fs
     → LowestBad ok z fs xs (firstBad ok 0 fs xs) × ((o : Option ℕ) → LowestBad ok z fs xs o → o ≡ firstBad ok 0 fs xs)

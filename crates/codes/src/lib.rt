@@ -10,3 +10,4 @@ pub mod run;
 pub mod plain;
 pub mod fence;
 pub mod joined;
+pub mod coding;
