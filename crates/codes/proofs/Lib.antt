@@ -1,6 +1,4 @@
 pub mod Maps
 pub mod Offsets
-pub mod Fences
-pub mod Plains
 pub mod Joins
 pub mod Checks

@@ -1,13 +1,11 @@
 // Field codes: how a telegram's values and a rule's box become ternary digits, so that the words match
 // exactly when the box holds the values.
 //
-// `code` is the interface with its law, `plain`, `fence` and `joined` implement it, and `coding` has the
+// `code` is the interface with its law, `joined` makes one code of two, and `coding` has the
 // calls for users, which refuse what does not fit. docs/codes.md has the rules.
 pub mod width;
 pub mod span;
 pub mod code;
 pub mod run;
-pub mod plain;
-pub mod fence;
 pub mod joined;
 pub mod coding;

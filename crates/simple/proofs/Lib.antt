@@ -1,0 +1,2 @@
+pub mod Fences
+pub mod Plains
