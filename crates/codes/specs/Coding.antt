@@ -5,15 +5,12 @@ use mathlib.Core.List.{List, [], _∷_}
 use Prim.Native.Nat.{ℕ, _+_, _^_, _<_, _≤_}
 use lib.Dec.{ltb, leb, eqb}
 use lib.ListN.{length, getD}
-use lib.Seq.{paste}
 use Rattle.std.specs.declared.option.Option.{Option}
 use Rattle.std.specs.declared.option.Option.the-variants.{Some, None}
 use Rattle.std.specs.declared.result.Result.{Result}
 use Rattle.std.specs.declared.result.Result.the-variants.{Ok, Err}
-use Rattle.ternary.specs.declared.digit.Digit.{Digit}
 use Rattle.ternary.specs.declared.refusal.Refusal.{Refusal}
 use Rattle.ternary.specs.declared.word.Word.{Word}
-use Rattle.ternary.specs.Words.{digits}
 use Rattle.ternary.specs.Refusals.{Report, report, told}
 use Rattle.codes.specs.declared.span.Span.{Span}
 use Rattle.codes.specs.Spans.{inField}
@@ -70,11 +67,10 @@ abbrev pub toldOf : Option Refusal → Option Report
 toldOf None = None
 toldOf (Some e) = Some (told e)
 
--- A coding call writes the code's digits into the caller's word from digit 1 on, and no other digit.
--- Where it is refused, the word stays as it was.
-abbrev pub Coded : Option Report → ℕ → List Digit → Word → Word → Result Unit Refusal → Type 0
-Coded refusal size word before after (Ok u) = (refusal ≡ None) × (digits after ≡ paste (digits before) 1 word size)
-Coded refusal size word before after (Err e) = (refusal ≡ Some (told e)) × (after ≡ before)
+-- A coding call is refused as the first line that fits says, and the word stays as it was; or no line fits, and it is done.
+abbrev pub Coded : Option Report → Type 0 → Word → Word → Result Unit Refusal → Type 0
+Coded refusal done before after (Ok u) = (refusal ≡ None) × done
+Coded refusal done before after (Err e) = (refusal ≡ Some (told e)) × (after ≡ before)
 
 -- `firstBad` names the lowest field whose element does not pass, or none where all pass
 abbrev pub LowestBad : {X : Type 0} → (Field → X → Bool) → X → List Field → List X → Option ℕ → Type 0

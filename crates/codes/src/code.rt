@@ -6,10 +6,9 @@
 ghost use mathlib.Core.Path.{_≡_};
 ghost use Prim.Native.Nat.{_+_, _<_, _≤_, min};
 ghost use lib.ListN.{length, getD};
-ghost use lib.Seq.{paste};
-ghost use Rattle.ternary.specs.Words.{digits};
 ghost use Rattle.codes.specs.Spans.{bitsOf};
 ghost use Rattle.codes.specs.Meaning.{Meaning, Lawful, Small, Values, Boxes, noField};
+ghost use Rattle.codes.specs.Writing.{ValuesPut, BoxPut};
 use crate::span::Span;
 use crate::width::Width;
 use ternary::word::Word;
@@ -46,12 +45,12 @@ pub trait FieldCode {
         requires small { ⌜ Small (meaning (now self)) ⌝ }
         requires good { ⌜ Values (meaning (now self) .fields) (now values) ⌝ }
         requires within { ⌜ at + meaning (now self) .size ≤ 256 ⌝ }
-        ensures { λ _. ⌜ digits (now (out .exit)) ≡ paste (digits (now (out .entry))) at (meaning (now (self .entry)) .valueWord (now (values .entry))) (meaning (now (self .entry)) .size) ⌝ };
+        ensures { λ _. ⌜ ValuesPut (meaning (now (self .entry))) (now (values .entry)) at (now (out .entry)) (now (out .exit)) ⌝ };
 
     // Writes the word of the box from digit `at` on, and no other digit.
     fn put_box(&self, sides: &[Option<Span>], at: u16, out: &mut Word)
         requires small { ⌜ Small (meaning (now self)) ⌝ }
         requires good { ⌜ Boxes (meaning (now self) .fields) (now sides) ⌝ }
         requires within { ⌜ at + meaning (now self) .size ≤ 256 ⌝ }
-        ensures { λ _. ⌜ digits (now (out .exit)) ≡ paste (digits (now (out .entry))) at (meaning (now (self .entry)) .boxWord (now (sides .entry))) (meaning (now (self .entry)) .size) ⌝ };
+        ensures { λ _. ⌜ BoxPut (meaning (now (self .entry))) (now (sides .entry)) at (now (out .entry)) (now (out .exit)) ⌝ };
 }

@@ -9,6 +9,7 @@ ghost use Rattle.std.specs.declared.option.Option.{Option};
 ghost use Rattle.std.specs.declared.option.Option.the-variants.{None};
 ghost use Rattle.codes.specs.declared.span.Span.{Span};
 ghost use Rattle.codes.specs.Meaning.{Small, noField};
+ghost use Rattle.codes.specs.Writing.{ValuesPut, BoxPut};
 ghost use Rattle.codes.specs.Coding.{valuesRefusal, boxRefusal, Coded, firstBad, spanOk, takenOk, valueOk, isSmall, countRefusal, toldOf, Lowest-bad-law};
 use crate::code::FieldCode;
 use crate::span::Span;
@@ -140,7 +141,7 @@ pub fn check_box<F: FieldCode>(code: &F, sides: &[Option<Span>]) -> Option<Refus
 
 // Writes the values' word into `out` from digit 1 on; digit 0 and those behind the code's stay.
 pub fn code_values<F: FieldCode>(code: &F, values: &[u16], out: &mut Word) -> Result<(), Refusal>
-    ensures { λ r. ⌜ Coded (valuesRefusal (F·FieldCode .meaning (now (code .entry))) (now (values .entry))) (F·FieldCode .meaning (now (code .entry)) .size) (F·FieldCode .meaning (now (code .entry)) .valueWord (now (values .entry))) (now (out .entry)) (now (out .exit)) r ⌝ }
+    ensures { λ r. ⌜ Coded (valuesRefusal (F·FieldCode .meaning (now (code .entry))) (now (values .entry))) (ValuesPut (F·FieldCode .meaning (now (code .entry))) (now (values .entry)) 1 (now (out .entry)) (now (out .exit))) (now (out .entry)) (now (out .exit)) r ⌝ }
 {
     if let Some(refusal) = check_values(code, values) {
         return Err(refusal);
@@ -151,7 +152,7 @@ pub fn code_values<F: FieldCode>(code: &F, values: &[u16], out: &mut Word) -> Re
 
 // Writes the box's word into `out` from digit 1 on; digit 0 and those behind the code's stay.
 pub fn code_box<F: FieldCode>(code: &F, sides: &[Option<Span>], out: &mut Word) -> Result<(), Refusal>
-    ensures { λ r. ⌜ Coded (boxRefusal (F·FieldCode .meaning (now (code .entry))) (now (sides .entry))) (F·FieldCode .meaning (now (code .entry)) .size) (F·FieldCode .meaning (now (code .entry)) .boxWord (now (sides .entry))) (now (out .entry)) (now (out .exit)) r ⌝ }
+    ensures { λ r. ⌜ Coded (boxRefusal (F·FieldCode .meaning (now (code .entry))) (now (sides .entry))) (BoxPut (F·FieldCode .meaning (now (code .entry))) (now (sides .entry)) 1 (now (out .entry)) (now (out .exit))) (now (out .entry)) (now (out .exit)) r ⌝ }
 {
     if let Some(refusal) = check_box(code, sides) {
         return Err(refusal);

@@ -5,7 +5,7 @@
 ghost use mathlib.Core.Path.{_≡_};
 ghost use mathlib.Core.List.{List};
 ghost use Prim.Native.Nat.{ℕ, _+_, _<_, _≤_};
-ghost use lib.ListN.{length, getD};
+ghost use lib.ListN.{length, getD, set};
 ghost use lib.Seq.{paste};
 ghost use Rattle.ternary.specs.declared.digit.Digit.{Digit};
 ghost use Rattle.ternary.specs.declared.digit.Digit.the-variants.{Any};
@@ -28,12 +28,21 @@ pub trait DigitRun {
         ensures { λ r. ⌜ r ≡ getD (run (now (self .entry))) i Any ⌝ };
 }
 
+// Writes digit i of the run.
+fn put_digit<R: DigitRun>(run: &R, i: u16, at: u16, out: &mut Word)
+    requires { ⌜ i < R·DigitRun .size (now run) ⌝ }
+    requires { ⌜ at + R·DigitRun .size (now run) ≤ 256 ⌝ }
+    ensures { λ _. ⌜ digits (now (out .exit)) ≡ set (digits (now (out .entry))) (at + i) (getD (R·DigitRun .run (now (run .entry))) i Any) ⌝ }
+{
+    out.put((at + i) as u8, run.digit(i));
+}
+
 // Writes the run from digit `at` on, and no other digit.
 pub fn put_run<R: DigitRun>(run: &R, at: u16, out: &mut Word)
     requires { ⌜ at + R·DigitRun .size (now run) ≤ 256 ⌝ }
     ensures { λ _. ⌜ digits (now (out .exit)) ≡ paste (digits (now (out .entry))) at (R·DigitRun .run (now (run .entry))) (R·DigitRun .size (now (run .entry))) ⌝ }
 {
     for i in 0..run.count() {
-        out.put((at + i) as u8, run.digit(i));
+        put_digit(run, i, at, out);
     }
 }

@@ -106,15 +106,15 @@ pub impl FieldCode for FenceCode as FenceFieldCode {
     ghost meaning = { λ c. fence (bitsOf (c .width)) };
 
     fn fields(&self) -> u16 {
-        1
+        1 // field
     }
 
     fn size(&self) -> u16 {
-        self.width.highest()
+        self.width.highest() // digits 1 to 2^w - 1
     }
 
     fn width(&self, _field: u16) -> Width {
-        self.width
+        self.width // of the one field
     }
 
     fn accepts(&self, _field: u16, span: Span) -> bool {
@@ -122,7 +122,7 @@ pub impl FieldCode for FenceCode as FenceFieldCode {
     }
 
     fn reach(&self, _field: u16) -> u16 {
-        self.width.highest()
+        self.width.highest() // the whole field
     }
 
     fn put_values(&self, values: &[u16], at: u16, out: &mut Word) {

@@ -117,15 +117,15 @@ pub impl FieldCode for PlainCode as PlainFieldCode {
     ghost meaning = { λ c. plain (bitsOf (c .width)) };
 
     fn fields(&self) -> u16 {
-        1
+        1 // field
     }
 
     fn size(&self) -> u16 {
-        self.width.bits() as u16
+        self.width.bits() as u16 // a digit for each bit
     }
 
     fn width(&self, _field: u16) -> Width {
-        self.width
+        self.width // of the one field
     }
 
     fn accepts(&self, _field: u16, span: Span) -> bool {
@@ -133,7 +133,7 @@ pub impl FieldCode for PlainCode as PlainFieldCode {
     }
 
     fn reach(&self, _field: u16) -> u16 {
-        0
+        0 // only the value itself
     }
 
     fn put_values(&self, values: &[u16], at: u16, out: &mut Word) {

@@ -1,8 +1,8 @@
-use mathlib.Core.Path.{sym, ap, ap₂, _∙_}
+use mathlib.Core.Path.{sym, ap, _∙_}
 use Prim.Native.Nat.{ℕ, _+_}
 use native.Mathlib.Omega.{arith}
 use native.Mathlib.Numerals.{add-one}
-use lib.ListN.{set}
+use lib.ListN.{getD, set}
 use lib.Seq.{paste, paste-zero, paste-suc}
 use Rattle.ternary.specs.declared.digit.Digit.the-variants.{Any}
 use Rattle.ternary.specs.Words.{digits}
@@ -18,7 +18,7 @@ loop-i-again g c =
     let at = c .args .at in let i = c .loop-i .i in
     let room = digits-length (c .args .out .now) in
     let long = g .R·DigitRun·met .long (c .args .run .now) in
-    c .put .ensures ∙ ap₂ (λ x y. set x (at + i) y) (c .loop-i .inv) (c .digit .ensures)
+    c .put-digit .ensures ∙ ap (λ x. set x (at + i) (getD xs i Any)) (c .loop-i .inv)
     ∙ paste-suc ds at xs i Any (omega arith) (omega arith) ∙ ap (paste ds at xs) (sym (add-one i))
 
 pub returns : need.returns
