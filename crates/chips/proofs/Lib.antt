@@ -1,0 +1,4 @@
+pub mod Memory
+pub mod Puts
+pub mod Finds
+pub mod Steps

@@ -1,0 +1,65 @@
+// A rule is put into a row, and a telegram is classed by the first row that matches its key.
+ghost use mathlib.Core.Path.{_≡_};
+ghost use mathlib.Core.List.{List, [], _∷_, _++_};
+ghost use Prim.Native.Nat.{ℕ};
+ghost use lib.ListN.{length, set};
+ghost use Rattle.std.specs.declared.option.Option.the-variants.{Some, None};
+ghost use Rattle.std.specs.declared.result.Result.the-variants.{Ok, Err};
+ghost use Rattle.ternary.specs.Refusals.{answered};
+ghost use Rattle.codes.specs.Coding.{valuesRefusal, boxRefusal};
+ghost use Rattle.rules.specs.Rules.{Rule, rule, rowOf, listGives, placeAnswer, placedRows, classAnswer, Held};
+use chips::chip::Chip;
+use codes::code::FieldCode;
+use codes::span::Span;
+use crate::row::key_word;
+use crate::row::rule_word;
+use crate::tag::number_and_class;
+use crate::tag::tag_of;
+use ternary::refusal::Refusal;
+
+// Writes a rule's word and tag into a row.
+fn put_rule<C: Chip, F: FieldCode>(chip: &mut C, code: &F, row: u16, number: u16, class: u16, sides: &[Option<Span>]) -> Result<(), Refusal>
+    ensures answer { λ r. ⌜ answered r ≡ placeAnswer (F·FieldCode .meaning (now (code .entry))) (C·Chip .rows (now (chip .entry))) row (now (sides .entry)) ⌝ }
+    ensures after { λ _. ⌜ C·Chip .rows (now (chip .exit)) ≡ placedRows (boxRefusal (F·FieldCode .meaning (now (code .entry))) (now (sides .entry))) (C·Chip .rows (now (chip .entry))) (set (C·Chip .rows (now (chip .entry))) row (rowOf (F·FieldCode .meaning (now (code .entry))) (rule number class (now (sides .entry))))) ⌝ }
+    ensures lent { λ _. ⌜ C·Chip .loans (now (chip .exit)) ≡ C·Chip .loans (now (chip .entry)) ⌝ }
+{
+    match rule_word(code, sides) {
+        Ok(word) => chip.write(row, &word, tag_of(number, class)),
+        Err(refusal) => Err(refusal),
+    }
+}
+
+// Writes a rule into a row; a refusal changes nothing.
+//
+// Where the rows hold a rule list and the row is the first behind it, they then hold the list with this rule at its end.
+pub fn place_rule<C: Chip, F: FieldCode>(chip: &mut C, code: &F, row: u16, number: u16, class: u16, sides: &[Option<Span>]) -> Result<(), Refusal>
+    ensures answer { λ r. ⌜ answered r ≡ placeAnswer (F·FieldCode .meaning (now (code .entry))) (C·Chip .rows (now (chip .entry))) row (now (sides .entry)) ⌝ }
+    ensures after { λ _. ⌜ C·Chip .rows (now (chip .exit)) ≡ placedRows (boxRefusal (F·FieldCode .meaning (now (code .entry))) (now (sides .entry))) (C·Chip .rows (now (chip .entry))) (set (C·Chip .rows (now (chip .entry))) row (rowOf (F·FieldCode .meaning (now (code .entry))) (rule number class (now (sides .entry))))) ⌝ }
+    ensures lent { λ _. ⌜ C·Chip .loans (now (chip .exit)) ≡ C·Chip .loans (now (chip .entry)) ⌝ }
+    ensures holds { λ r. ⌜ ((rs : List Rule) → Held (F·FieldCode .meaning (now (code .entry))) rs (C·Chip .rows (now (chip .entry))) → row ≡ length rs → answered r ≡ Ok tt → Held (F·FieldCode .meaning (now (code .entry))) (rs ++ rule number class (now (sides .entry)) ∷ []) (C·Chip .rows (now (chip .exit)))) ⌝ }
+{
+    put_rule(chip, code, row, number, class, sides)
+}
+
+// Number and class of the first row that matches the telegram's key.
+fn find_class<C: Chip, F: FieldCode>(chip: &C, code: &F, values: &[u16]) -> Result<Option<(u16, u16)>, Refusal>
+    ensures { λ r. ⌜ answered r ≡ classAnswer (F·FieldCode .meaning (now (code .entry))) (C·Chip .rows (now (chip .entry))) (now (values .entry)) ⌝ }
+{
+    match key_word(code, values) {
+        Ok(key) => match chip.find(&key) {
+            Some((_row, tag)) => Ok(Some(number_and_class(tag))),
+            None => Ok(None),
+        },
+        Err(refusal) => Err(refusal),
+    }
+}
+
+// Classes a telegram by the first row that matches its key: the rule's number and its class, or none.
+//
+// Where the rows hold a rule list, that is what the list gives: the first rule in order whose box holds the values.
+pub fn class_of<C: Chip, F: FieldCode>(chip: &C, code: &F, values: &[u16]) -> Result<Option<(u16, u16)>, Refusal>
+    ensures answer { λ r. ⌜ answered r ≡ classAnswer (F·FieldCode .meaning (now (code .entry))) (C·Chip .rows (now (chip .entry))) (now (values .entry)) ⌝ }
+    ensures gives { λ r. ⌜ ((rs : List Rule) → Held (F·FieldCode .meaning (now (code .entry))) rs (C·Chip .rows (now (chip .entry))) → valuesRefusal (F·FieldCode .meaning (now (code .entry))) (now (values .entry)) ≡ None → answered r ≡ Ok (listGives (F·FieldCode .meaning (now (code .entry)) .fields) rs (now (values .entry)))) ⌝ }
+{
+    find_class(chip, code, values)
+}
