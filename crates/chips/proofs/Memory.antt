@@ -1,4 +1,4 @@
--- The rows of a chip over a caller's memory, slot by slot.
+-- The rows of a memory, slot by slot.
 use mathlib.Core.Path.{_≡_, refl, sym, ap, _∙_}
 use mathlib.Core.List.{List, [], _∷_, map}
 use Prim.Native.Nat.{ℕ, zero, suc, min, _<_, _≤_}
@@ -6,8 +6,10 @@ use native.Mathlib.Omega.{arith}
 use lib.ListN.{length, getD, drop, take, set}
 use Rattle.std.proofs.shelf.Lists.{length-take, length-map, getD-take, getD-map, map-set, drop-set-lt}
 use Rattle.chips.specs.declared.slot.Slot.{Slot}
-use Rattle.chips.specs.Chip.{meaning, emptyRow, rowsOver}
+use Rattle.chips.specs.Chip.{meaning, emptyRow}
+use Rattle.chips.specs.Lent.{rowsOver}
 
+-- a write into the part that is taken, or behind it
 take-set-any : {X : Type 0} (n : ℕ) (xs : List X) (i : ℕ) (x : X) → take n (set xs i x) ≡ set (take n xs) i x
 take-set-any zero xs i x = refl
 take-set-any (suc n) [] i x = refl

@@ -1,15 +1,11 @@
 -- What a put leaves, and what it answers.
-use mathlib.Core.Path.{_≡_, sym, ap}
-use mathlib.Core.Bool.{Bool, true, false, cond}
+use mathlib.Core.Path.{_≡_}
 use mathlib.Core.List.{List}
 use Prim.Native.Nat.{ℕ, _<_, _≤_}
-use lib.Dec.{ltb}
-use lib.ListN.{length, set}
+use lib.ListN.{length}
 use Rattle.std.proofs.shelf.Lists.{getD-set-same, getD-set-other, length-set, set-past}
 use Rattle.std.proofs.shelf.Tests.{lt-ltb, le-ltb}
-use Rattle.std.specs.declared.result.Result.{Result}
 use Rattle.std.specs.declared.result.Result.the-variants.{Ok, Err}
-use Rattle.ternary.specs.Refusals.{Report}
 use Rattle.chips.specs.Chip.{Row, emptyRow, noRow, putAnswer, Put-law}
 
 module _ (rs : List Row) (row : ℕ) where

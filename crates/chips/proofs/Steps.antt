@@ -7,7 +7,8 @@ use Rattle.std.specs.declared.option.Option.{Option}
 use Rattle.std.specs.declared.option.Option.the-variants.{Some, None}
 use Rattle.ternary.specs.declared.digit.Digit.{Digit}
 use Rattle.chips.specs.declared.slot.Slot.{Slot}
-use Rattle.chips.specs.Chip.{Row, meaning, hitTag, rowsOver, firstFrom}
+use Rattle.chips.specs.Chip.{Row, meaning, hitTag, firstFrom}
+use Rattle.chips.specs.Lent.{rowsOver}
 use Rattle.chips.proofs.Memory.{low-is-row, past-slots, past-rows, row-of-slot}
 use Rattle.chips.proofs.Finds.{first-here, first-later, first-nowhere}
 

@@ -2,10 +2,10 @@
 use mathlib.Core.Path.{_≡_}
 use mathlib.Core.Logic.{_≢_}
 use mathlib.Core.Bool.{Bool, true, false, cond}
-use mathlib.Core.List.{List, [], _∷_, map}
+use mathlib.Core.List.{List, [], _∷_}
 use Prim.Native.Nat.{ℕ, _+_, _<_, _≤_}
 use lib.Dec.{ltb}
-use lib.ListN.{length, getD, set, take}
+use lib.ListN.{length, getD, set}
 use Rattle.std.specs.declared.option.Option.{Option}
 use Rattle.std.specs.declared.option.Option.the-variants.{Some, None}
 use Rattle.std.specs.declared.result.Result.{Result}
@@ -31,10 +31,6 @@ fullRow w t = Some (w, t)
 abbrev pub meaning : Slot → Row
 meaning Empty = emptyRow
 meaning (Full w t) = fullRow (digits w) t
-
--- the rows of a chip over a caller's memory: its first 256 slots, or all where it has fewer
-abbrev pub rowsOver : List Slot → List Row
-rowsOver slots = take 256 (map meaning slots)
 
 -- what the refusal of a row that is not on the chip tells: number 1, the row, layer 0
 abbrev pub noRow : ℕ → Report

@@ -4,5 +4,3 @@
 pub mod chip;
 pub mod rows;
 pub mod slot;
-#[cfg(test)]
-mod tests;

@@ -1,16 +1,15 @@
 // A chip over memory that its caller lends, one slot a row.
 //
 // It has the first 256 slots as it finds them. Slots behind those are not rows of it and stay as they are.
-ghost use denote.Ref.{now as at, name};
-ghost use Prim.Native.Nat.{_<_, min};
+ghost use denote.Ref.{name};
+ghost use Prim.Native.Nat.{_<_, _≤_, min};
 ghost use mathlib.Core.Path.{_≡_};
-ghost use mathlib.Core.List.{[], _∷_};
 ghost use lib.Dec.{ltb};
-ghost use lib.ListN.{length, getD, drop, set};
-ghost use Rattle.std.specs.declared.option.Option.the-variants.{None};
+ghost use lib.ListN.{length, getD, set};
 ghost use Rattle.ternary.specs.Words.{digits};
 ghost use Rattle.ternary.specs.Refusals.{answered};
-ghost use Rattle.chips.specs.Chip.{meaning, rowsOver, putAnswer, emptyRow, fullRow, hitTag};
+ghost use Rattle.chips.specs.Chip.{meaning, putAnswer, emptyRow, fullRow, hitTag};
+ghost use Rattle.chips.specs.Lent.{rowsOf, behind, loansOf};
 use crate::chip::Chip;
 use crate::slot::Slot;
 use ternary::refusal::Refusal;
@@ -32,31 +31,33 @@ impl<'a> RowChip<'a> {
 
     // How many of the slots are rows.
     fn size(&self) -> u16
-        ensures all { λ r. ⌜ r ≡ length (rowsOver (now (now (self .entry) .rows))) ⌝ }
-        ensures few { λ r. ⌜ r < 257 ⌝ }
+        ensures all { λ r. ⌜ r ≡ length (rowsOf (now (self .entry))) ⌝ }
+        ensures few { λ r. ⌜ r ≤ 256 ⌝ }
     {
         capped(self.rows.len())
     }
 
     // Is the row on the chip?
     fn has(&self, row: u16) -> bool
-        ensures { λ r. ⌜ r ≡ ltb row (length (rowsOver (now (now (self .entry) .rows)))) ⌝ }
+        ensures { λ r. ⌜ r ≡ ltb row (length (rowsOf (now (self .entry)))) ⌝ }
     {
         row < self.size()
     }
 
+    // The slot of a row of the chip.
     fn slot_at(&self, row: u16) -> Slot
-        requires { ⌜ row < length (rowsOver (now (now self .rows))) ⌝ }
-        ensures { λ r. ⌜ meaning r ≡ getD (rowsOver (now (now (self .entry) .rows))) row None ⌝ }
+        requires { ⌜ row < length (rowsOf (now self)) ⌝ }
+        ensures { λ r. ⌜ meaning r ≡ getD (rowsOf (now (self .entry))) row emptyRow ⌝ }
     {
         self.rows[row as usize]
     }
 
+    // Makes a row what is given, or refuses it.
     fn put(&mut self, row: u16, slot: Slot) -> Result<(), Refusal>
-        ensures answer { λ r. ⌜ answered r ≡ putAnswer (rowsOver (now (now (self .entry) .rows))) row ⌝ }
-        ensures after { λ _. ⌜ rowsOver (now (now (self .exit) .rows)) ≡ set (rowsOver (now (now (self .entry) .rows))) row (meaning slot) ⌝ }
-        ensures lent { λ _. ⌜ name (now (self .exit) .rows) ≡ name (now (self .entry) .rows) ⌝ }
-        ensures past { λ _. ⌜ drop 256 (now (now (self .exit) .rows)) ≡ drop 256 (now (now (self .entry) .rows)) ⌝ }
+        ensures answer { λ r. ⌜ answered r ≡ putAnswer (rowsOf (now (self .entry))) row ⌝ }
+        ensures after { λ _. ⌜ rowsOf (now (self .exit)) ≡ set (rowsOf (now (self .entry))) row (meaning slot) ⌝ }
+        ensures lent { λ _. ⌜ loansOf (now (self .exit)) ≡ loansOf (now (self .entry)) ⌝ }
+        ensures past { λ _. ⌜ behind (now (self .exit)) ≡ behind (now (self .entry)) ⌝ }
     {
         if !self.has(row) {
             return Err(Refusal::NoSuchRow { row });
@@ -84,9 +85,9 @@ fn hit(slot: &Slot, key: &Word) -> Option<u32>
 }
 
 pub impl<'a> Chip for RowChip<'a> as RowChipChip {
-    ghost rows = { λ c. rowsOver (at (c .rows)) };
+    ghost rows = { rowsOf };
 
-    ghost loans = { λ c. name (c .rows) ∷ [] };
+    ghost loans = { loansOf };
 
     fn count(&self) -> u16 {
         self.size()
@@ -100,19 +101,19 @@ pub impl<'a> Chip for RowChip<'a> as RowChipChip {
     }
 
     fn write(&mut self, row: u16, word: &Word, tag: u32) -> Result<(), Refusal>
-        ensures answer { λ r. ⌜ answered r ≡ putAnswer (rowsOver (now (now (self .entry) .rows))) row ⌝ }
-        ensures after { λ _. ⌜ rowsOver (now (now (self .exit) .rows)) ≡ set (rowsOver (now (now (self .entry) .rows))) row (fullRow (digits (now (word .entry))) tag) ⌝ }
-        ensures lent { λ _. ⌜ name (now (self .exit) .rows) ∷ [] ≡ name (now (self .entry) .rows) ∷ [] ⌝ }
-        ensures past { λ _. ⌜ drop 256 (now (now (self .exit) .rows)) ≡ drop 256 (now (now (self .entry) .rows)) ⌝ }
+        ensures answer { λ r. ⌜ answered r ≡ putAnswer (rowsOf (now (self .entry))) row ⌝ }
+        ensures after { λ _. ⌜ rowsOf (now (self .exit)) ≡ set (rowsOf (now (self .entry))) row (fullRow (digits (now (word .entry))) tag) ⌝ }
+        ensures lent { λ _. ⌜ loansOf (now (self .exit)) ≡ loansOf (now (self .entry)) ⌝ }
+        ensures past { λ _. ⌜ behind (now (self .exit)) ≡ behind (now (self .entry)) ⌝ }
     {
         self.put(row, Slot::Full(*word, tag))
     }
 
     fn erase(&mut self, row: u16) -> Result<(), Refusal>
-        ensures answer { λ r. ⌜ answered r ≡ putAnswer (rowsOver (now (now (self .entry) .rows))) row ⌝ }
-        ensures after { λ _. ⌜ rowsOver (now (now (self .exit) .rows)) ≡ set (rowsOver (now (now (self .entry) .rows))) row emptyRow ⌝ }
-        ensures lent { λ _. ⌜ name (now (self .exit) .rows) ∷ [] ≡ name (now (self .entry) .rows) ∷ [] ⌝ }
-        ensures past { λ _. ⌜ drop 256 (now (now (self .exit) .rows)) ≡ drop 256 (now (now (self .entry) .rows)) ⌝ }
+        ensures answer { λ r. ⌜ answered r ≡ putAnswer (rowsOf (now (self .entry))) row ⌝ }
+        ensures after { λ _. ⌜ rowsOf (now (self .exit)) ≡ set (rowsOf (now (self .entry))) row emptyRow ⌝ }
+        ensures lent { λ _. ⌜ loansOf (now (self .exit)) ≡ loansOf (now (self .entry)) ⌝ }
+        ensures past { λ _. ⌜ behind (now (self .exit)) ≡ behind (now (self .entry)) ⌝ }
     {
         self.put(row, Slot::Empty)
     }

@@ -80,3 +80,7 @@ pub record Held (m : Meaning) (rs : List Rule) (rows : List Row) : Type 0 where
   pub plain : All (λ r. r .class < 65536) rs
   pub free : ℕ
   pub are : rows ≡ map (rowOf m) rs ++ replicate free emptyRow
+
+-- rows that are all empty hold the empty list
+abbrev pub Empty-rows-law : Type 0
+Empty-rows-law = (m : Meaning) (count : ℕ) → Held m [] (replicate count emptyRow)

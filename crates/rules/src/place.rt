@@ -7,7 +7,7 @@ ghost use Rattle.std.specs.declared.option.Option.the-variants.{Some, None};
 ghost use Rattle.std.specs.declared.result.Result.the-variants.{Ok, Err};
 ghost use Rattle.ternary.specs.Refusals.{answered};
 ghost use Rattle.codes.specs.Coding.{valuesRefusal, boxRefusal};
-ghost use Rattle.rules.specs.Rules.{Rule, rule, rowOf, listGives, placeAnswer, placedRows, classAnswer, Held};
+ghost use Rattle.rules.specs.Rules.{Rule, rule, rowOf, listGives, placeAnswer, placedRows, classAnswer, Held, Empty-rows-law};
 use chips::chip::Chip;
 use codes::code::FieldCode;
 use codes::span::Span;
@@ -62,4 +62,11 @@ pub fn class_of<C: Chip, F: FieldCode>(chip: &C, code: &F, values: &[u16]) -> Re
     ensures gives { λ r. ⌜ ((rs : List Rule) → Held (F·FieldCode .meaning (now (code .entry))) rs (C·Chip .rows (now (chip .entry))) → valuesRefusal (F·FieldCode .meaning (now (code .entry))) (now (values .entry)) ≡ None → answered r ≡ Ok (listGives (F·FieldCode .meaning (now (code .entry)) .fields) rs (now (values .entry)))) ⌝ }
 {
     find_class(chip, code, values)
+}
+
+// Rows that are all empty hold the empty rule list, whatever the code.
+pub fn empty_rows_law() -> u8
+    ensures { λ _. ⌜ Empty-rows-law ⌝ }
+{
+    0
 }

@@ -1,8 +1,10 @@
-// Worked examples of words, codes and rules, as tests. They stand in a crate of their own, since a crate with
-// tests is proved twice.
-#[cfg(test)]
-mod words;
+// Worked examples of words, codes, chips and rules, as tests. They stand in a crate of their own, since a crate
+// with tests is proved twice.
 #[cfg(test)]
 mod coding;
 #[cfg(test)]
-mod rules;
+mod placing;
+#[cfg(test)]
+mod rowchip;
+#[cfg(test)]
+mod words;

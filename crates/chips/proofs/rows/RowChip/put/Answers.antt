@@ -1,9 +1,10 @@
-use mathlib.Core.Path.{refl, sym, _∙_}
+use mathlib.Core.Path.{refl, sym}
 use Prim.Native.Nat.{_<_, _≤_}
 use lib.ListN.{length}
 use Rattle.std.proofs.shelf.Lists.{set-past}
 use Rattle.std.proofs.shelf.Tests.{ltb-true, ltb-false}
-use Rattle.chips.specs.Chip.{meaning, rowsOver}
+use Rattle.chips.specs.Chip.{meaning}
+use Rattle.chips.specs.Lent.{rowsOver}
 use Rattle.chips.proofs.Memory.{row-is-slot, rows-after-set, past-after-set}
 use Rattle.chips.proofs.Puts.{put-done, put-refused}
 use Rattle.chips.proofs.rows.RowChip.put.Needs as need

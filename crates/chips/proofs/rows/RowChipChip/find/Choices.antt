@@ -1,6 +1,7 @@
 use mathlib.Core.Path.{_≡_}
 use Rattle.ternary.specs.Words.{digits}
-use Rattle.chips.specs.Chip.{rowsOver, firstMatch}
+use Rattle.chips.specs.Chip.{firstMatch}
+use Rattle.chips.specs.Lent.{rowsOver}
 use Rattle.chips.proofs.Steps.{firstOn, Turns}
 use Rattle.chips.proofs.rows.RowChipChip.find.Given as given
 
