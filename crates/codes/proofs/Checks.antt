@@ -44,11 +44,11 @@ module _ {X : Type 0} (ok : Field → X → Bool) where
   none-bad (f ∷ fs) [] i l e = absurd (omega arith)
   none-bad (f ∷ fs) (x ∷ xs) i l e = by (ok f x) refl (λ h. none-bad fs xs (i + 1) (omega arith) h)
     where
-    by : (b : Bool) → ok f x ≡ b → (firstBad ok (i + 1) fs xs ≡ None → Per (λ f x. ok f x ≡ true) fs xs) → (ok f x ≡ true) × Per (λ f x. ok f x ≡ true) fs xs
-    by true q rest = (q, rest (sym (cond-true (ok f x) (firstBad ok (i + 1) fs xs) (Some i) q) ∙ e))
-    by false q rest =
-        let s : Some i ≡ None = sym (cond-false (ok f x) (firstBad ok (i + 1) fs xs) (Some i) q) ∙ e in
-        let z : _≡_ {A = ℕ} 0 1 = cc in absurd (omega arith)
+      by : (b : Bool) → ok f x ≡ b → (firstBad ok (i + 1) fs xs ≡ None → Per (λ f x. ok f x ≡ true) fs xs) → (ok f x ≡ true) × Per (λ f x. ok f x ≡ true) fs xs
+      by true q rest = (q, rest (sym (cond-true (ok f x) (firstBad ok (i + 1) fs xs) (Some i) q) ∙ e))
+      by false q rest =
+          let s : Some i ≡ None = sym (cond-false (ok f x) (firstBad ok (i + 1) fs xs) (Some i) q) ∙ e in
+          let z : _≡_ {A = ℕ} 0 1 = cc in absurd (omega arith)
 
 -- ---- what it tells that no line fits
 
@@ -68,10 +68,10 @@ small-from m e =
 count-good : (m : Meaning) (n : ℕ) → countRefusal m n ≡ None → Small m × (n ≡ length (m .fields))
 count-good m n e = by (isSmall m) (eqb n (length (m .fields))) refl refl e
   where
-  by : (s t : Bool) → isSmall m ≡ s → eqb n (length (m .fields)) ≡ t → cond s (cond t None (Some (report 8 0 1))) (Some (report 5 0 2)) ≡ None → Small m × (n ≡ length (m .fields))
-  by true true p q e = (small-from m p, eqb-true n (length (m .fields)) q)
-  by true false p q e = let z : _≡_ {A = ℕ} 0 1 = cc in absurd (omega arith)
-  by false t p q e = let z : _≡_ {A = ℕ} 0 1 = cc in absurd (omega arith)
+    by : (s t : Bool) → isSmall m ≡ s → eqb n (length (m .fields)) ≡ t → cond s (cond t None (Some (report 8 0 1))) (Some (report 5 0 2)) ≡ None → Small m × (n ≡ length (m .fields))
+    by true true p q e = (small-from m p, eqb-true n (length (m .fields)) q)
+    by true false p q e = let z : _≡_ {A = ℕ} 0 1 = cc in absurd (omega arith)
+    by false t p q e = let z : _≡_ {A = ℕ} 0 1 = cc in absurd (omega arith)
 
 per-both : {X : Type 0} (R S : Field → X → Type 0) (Q : Field → X → Type 0) → ((f : Field) (x : X) → R f x → S f x → Q f x)
     → (fs : List Field) (xs : List X) → Per R fs xs → Per S fs xs → Per Q fs xs
@@ -97,9 +97,11 @@ box-good m bs e =
     let ten = firstBad takenOk 0 (m .fields) bs in
     let p = or-none (countRefusal m (length bs)) (orElse (atField 9 nine) (atField 10 ten)) e in
     let q = count-good m (length bs) (p .0) in
-    let r = or-none (atField 9 nine) (atField 10 ten) (p .1) in
-    (q .0, per-both (λ f b. spanOk f b ≡ true) (λ f b. takenOk f b ≡ true) Taken taken-from (m .fields) bs
-      (none-bad spanOk (m .fields) bs 0 (q .1) (at-none 9 nine (r .0))) (none-bad takenOk (m .fields) bs 0 (q .1) (at-none 10 ten (r .1))))
+    let r = or-none (atField 9 nine) (atField 10 ten) (p .1) in (
+      q .0,
+      per-both (λ f b. spanOk f b ≡ true) (λ f b. takenOk f b ≡ true) Taken taken-from (m .fields) bs
+          (none-bad spanOk (m .fields) bs 0 (q .1) (at-none 9 nine (r .0))) (none-bad takenOk (m .fields) bs 0 (q .1) (at-none 10 ten (r .1))),
+    )
 
 -- ---- the lowest field by places
 
@@ -115,23 +117,23 @@ module _ {X : Type 0} (ok : Field → X → Bool) (z : X) where
   later : (f : Field) (x : X) (fs : List Field) (xs : List X) (b : ℕ) (o : Option ℕ) → ok f x ≡ true → Found fs xs (b + 1) o → Found (f ∷ fs) (x ∷ xs) b o
   later f x fs xs b None q h = below
     where
-    below : (i : ℕ) → i < length (f ∷ fs) → passes (f ∷ fs) (x ∷ xs) i ≡ true
-    below zero l = q
-    below (suc i) l = h i (omega arith)
+      below : (i : ℕ) → i < length (f ∷ fs) → passes (f ∷ fs) (x ∷ xs) i ≡ true
+      below zero l = q
+      below (suc i) l = h i (omega arith)
   later f x fs xs b (Some r) q h = (suc (h .0), omega (arith, h .1), omega (arith, h .2), h .3, below)
     where
-    below : (i : ℕ) → i < suc (h .0) → passes (f ∷ fs) (x ∷ xs) i ≡ true
-    below zero l = q
-    below (suc i) l = h .4 i (omega arith)
+      below : (i : ℕ) → i < suc (h .0) → passes (f ∷ fs) (x ∷ xs) i ≡ true
+      below zero l = q
+      below (suc i) l = h .4 i (omega arith)
 
   found : (fs : List Field) (xs : List X) (b : ℕ) → length xs ≡ length fs → Found fs xs b (firstBad ok b fs xs)
   found [] xs b l = λ i h. absurd (omega arith)
   found (f ∷ fs) [] b l = absurd (omega arith)
   found (f ∷ fs) (x ∷ xs) b l = by (ok f x) refl (found fs xs (b + 1) (omega arith))
     where
-    by : (t : Bool) → ok f x ≡ t → Found fs xs (b + 1) (firstBad ok (b + 1) fs xs) → Found (f ∷ fs) (x ∷ xs) b (cond t (firstBad ok (b + 1) fs xs) (Some b))
-    by true q rest = later f x fs xs b (firstBad ok (b + 1) fs xs) q rest
-    by false q rest = (0, omega arith, omega arith, q, λ i h. absurd (omega arith))
+      by : (t : Bool) → ok f x ≡ t → Found fs xs (b + 1) (firstBad ok (b + 1) fs xs) → Found (f ∷ fs) (x ∷ xs) b (cond t (firstBad ok (b + 1) fs xs) (Some b))
+      by true q rest = later f x fs xs b (firstBad ok (b + 1) fs xs) q rest
+      by false q rest = (0, omega arith, omega arith, q, λ i h. absurd (omega arith))
 
   lowest-from : (fs : List Field) (xs : List X) (o : Option ℕ) → Found fs xs 0 o → LowestBad ok z fs xs o
   lowest-from fs xs None h = h
@@ -145,8 +147,8 @@ module _ {X : Type 0} (ok : Field → X → Bool) (z : X) where
   one-lowest fs xs (Some i) None h k = absurd (true≢false (sym (k i (h .0)) ∙ h .1))
   one-lowest fs xs (Some i) (Some j) h k =
       ⊎-elim (λ (l : i < j). absurd (true≢false (sym (k .2 i l) ∙ h .1)))
-        (λ (g : j ≤ i). ⊎-elim (λ (e : i ≡ j). ap (λ (n : ℕ). Some n) e) (λ ne. absurd (true≢false (sym (h .2 j (omega (arith, ne))) ∙ k .1))) (cases-eq i j))
-        (cases-lt i j)
+      (λ (g : j ≤ i). ⊎-elim (λ (e : i ≡ j). ap (λ (n : ℕ). Some n) e) (λ ne. absurd (true≢false (sym (h .2 j (omega (arith, ne))) ∙ k .1))) (cases-eq i j))
+      (cases-lt i j)
 
 pub lowest-bad-law : (X : Type 0) → Lowest-bad-law X
 lowest-bad-law X ok z fs xs l =

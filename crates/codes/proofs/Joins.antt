@@ -57,26 +57,26 @@ module _ (m n : Meaning) (lm : Lawful m) (ln : Lawful n) where
     some = let e = length-append (m .fields) (n .fields) in omega (arith, lm .some);
     each = all-append FieldLaw (m .fields) (n .fields) (lm .each) (ln .each);
     valueSize = λ vs h.
-      let t = per-split (λ f v. v < 2 ^ f .width) (m .fields) (n .fields) vs h in
-      length-append (m .valueWord (take (length (m .fields)) vs)) (n .valueWord (drop (length (m .fields)) vs))
-      ∙ ap₂ (λ (a b : ℕ). a + b) (lm .valueSize (take (length (m .fields)) vs) (t .0)) (ln .valueSize (drop (length (m .fields)) vs) (t .1));
+        let t = per-split (λ f v. v < 2 ^ f .width) (m .fields) (n .fields) vs h in
+        length-append (m .valueWord (take (length (m .fields)) vs)) (n .valueWord (drop (length (m .fields)) vs))
+        ∙ ap₂ (λ (a b : ℕ). a + b) (lm .valueSize (take (length (m .fields)) vs) (t .0)) (ln .valueSize (drop (length (m .fields)) vs) (t .1));
     boxSize = λ bs h.
-      let t = per-split Taken (m .fields) (n .fields) bs h in
-      length-append (m .boxWord (take (length (m .fields)) bs)) (n .boxWord (drop (length (m .fields)) bs))
-      ∙ ap₂ (λ (a b : ℕ). a + b) (lm .boxSize (take (length (m .fields)) bs) (t .0)) (ln .boxSize (drop (length (m .fields)) bs) (t .1));
+        let t = per-split Taken (m .fields) (n .fields) bs h in
+        length-append (m .boxWord (take (length (m .fields)) bs)) (n .boxWord (drop (length (m .fields)) bs))
+        ∙ ap₂ (λ (a b : ℕ). a + b) (lm .boxSize (take (length (m .fields)) bs) (t .0)) (ln .boxSize (drop (length (m .fields)) bs) (t .1));
     noAny = λ vs h.
-      let t = per-split (λ f v. v < 2 ^ f .width) (m .fields) (n .fields) vs h in
-      all-append (λ d. sharp d ≡ true) _ _ (lm .noAny (take (length (m .fields)) vs) (t .0)) (ln .noAny (drop (length (m .fields)) vs) (t .1));
+        let t = per-split (λ f v. v < 2 ^ f .width) (m .fields) (n .fields) vs h in
+        all-append (λ d. sharp d ≡ true) _ _ (lm .noAny (take (length (m .fields)) vs) (t .0)) (ln .noAny (drop (length (m .fields)) vs) (t .1));
     matching = λ small vs bs h k.
-      let t = per-split (λ f v. v < 2 ^ f .width) (m .fields) (n .fields) vs h in
-      let u = per-split Taken (m .fields) (n .fields) bs k in
-      let e = length-append (m .fields) (n .fields) in
-      let sm : Small m = record { few = omega (arith, small .few); short = omega (arith, small .short) } in
-      let sn : Small n = record { few = omega (arith, small .few); short = omega (arith, small .short) } in
-      fits-append (m .valueWord (take (length (m .fields)) vs)) (m .boxWord (take (length (m .fields)) bs)) (n .valueWord (drop (length (m .fields)) vs)) (n .boxWord (drop (length (m .fields)) bs))
+        let t = per-split (λ f v. v < 2 ^ f .width) (m .fields) (n .fields) vs h in
+        let u = per-split Taken (m .fields) (n .fields) bs k in
+        let e = length-append (m .fields) (n .fields) in
+        let sm : Small m = record { few = omega (arith, small .few); short = omega (arith, small .short) } in
+        let sn : Small n = record { few = omega (arith, small .few); short = omega (arith, small .short) } in
+        fits-append (m .valueWord (take (length (m .fields)) vs)) (m .boxWord (take (length (m .fields)) bs)) (n .valueWord (drop (length (m .fields)) vs)) (n .boxWord (drop (length (m .fields)) bs))
         (lm .valueSize (take (length (m .fields)) vs) (t .0) ∙ sym (lm .boxSize (take (length (m .fields)) bs) (u .0)))
-      ∙ ap₂ (λ a b. a && b) (lm .matching sm _ _ (t .0) (u .0)) (ln .matching sn _ _ (t .1) (u .1))
-      ∙ sym (inBox-split (m .fields) (n .fields) vs bs h k);
+        ∙ ap₂ (λ a b. a && b) (lm .matching sm _ _ (t .0) (u .0)) (ln .matching sn _ _ (t .1) (u .1))
+        ∙ sym (inBox-split (m .fields) (n .fields) vs bs h k);
   }
 
 -- ---- a word written in two parts
@@ -92,10 +92,10 @@ paste-paste : {X : Type 0} (d : List X) (at : ℕ) (s t : List X) (n m : ℕ) �
 paste-paste d at s t n m ln lm h =
     let front : take (at + n) (paste d at s n) ≡ take at d ++ take n s = take-paste d at s n (omega arith) (omega arith) in
     let back : drop (at + n + m) (paste d at s n) ≡ drop (at + (n + m)) d =
-      sym (drop-drop m (at + n) (paste d at s n)) ∙ ap (drop m) (drop-paste d at s n (omega arith) (omega arith)) ∙ drop-drop m (at + n) d
-      ∙ ap (λ (k : ℕ). drop k d) (let e : at + n + m ≡ at + (n + m) = omega arith in e) in
+    sym (drop-drop m (at + n) (paste d at s n)) ∙ ap (drop m) (drop-paste d at s n (omega arith) (omega arith)) ∙ drop-drop m (at + n) d
+    ∙ ap (λ (k : ℕ). drop k d) (let e : at + n + m ≡ at + (n + m) = omega arith in e) in
     let both : take n s ++ take m t ≡ take (n + m) (s ++ t) =
-      ap (λ x. x ++ take m t) (take-all n s (omega arith)) ∙ sym (ap (λ (k : ℕ). take (k + m) (s ++ t)) (sym ln) ∙ take-append-add s t m) in
+    ap (λ x. x ++ take m t) (take-all n s (omega arith)) ∙ sym (ap (λ (k : ℕ). take (k + m) (s ++ t)) (sym ln) ∙ take-append-add s t m) in
     ap₂ (λ x y. x ++ take m t ++ y) front back
     ∙ ap (λ x. x ++ drop (at + (n + m)) d) (append-assoc (take at d) (take n s) (take m t) ∙ ap (λ x. take at d ++ x) both)
 

@@ -40,13 +40,15 @@ pub straight : (P s n v : ℕ) → v < P → s < P → s + n ≤ P → Decides (
 straight P s n v hv hs hn =
     ⊎-elim
     (λ (h : v < s).
-      let e = offset-below P s v h hs in
-      ( (λ t. let l = ltb-true ((v + (P - s % P)) % P) n t in absurd (omega arith))
-      , (λ t. absurd (omega (arith, t .0)))))
+    let e = offset-below P s v h hs in (
+      (λ t. let l = ltb-true ((v + (P - s % P)) % P) n t in absurd (omega arith)),
+      (λ t. absurd (omega (arith, t .0))),
+    ))
     (λ (h : s ≤ v).
-      let e = offset-above P s v h hv in
-      ( (λ t. let l = ltb-true ((v + (P - s % P)) % P) n t in (h, omega arith))
-      , (λ t. lt-ltb ((v + (P - s % P)) % P) n (omega (arith, t .1)))))
+    let e = offset-above P s v h hv in (
+      (λ t. let l = ltb-true ((v + (P - s % P)) % P) n t in (h, omega arith)),
+      (λ t. lt-ltb ((v + (P - s % P)) % P) n (omega (arith, t .1))),
+    ))
     (cases-lt v s)
 
 -- 65,536 less s is a multiple of 2^w more than 2^w less s mod 2^w
@@ -67,7 +69,7 @@ module _ (w : ℕ) (h : w ≤ 16) where
       let sum : (2 ^ (16 - w) - 1 - s / 2 ^ w + (s / 2 ^ w + 1)) * 2 ^ w ≡ (2 ^ (16 - w) - 1 - s / 2 ^ w) * 2 ^ w + (s / 2 ^ w + 1) * 2 ^ w = add-mul (2 ^ (16 - w) - 1 - s / 2 ^ w) (s / 2 ^ w + 1) (2 ^ w) in
       let one : (s / 2 ^ w + 1) * 2 ^ w ≡ s / 2 ^ w * 2 ^ w + 1 * 2 ^ w = add-mul (s / 2 ^ w) 1 (2 ^ w) in
       let all : (2 ^ (16 - w) - 1 - s / 2 ^ w + (s / 2 ^ w + 1)) * 2 ^ w ≡ 65536 =
-        ap (λ (n : ℕ). n * 2 ^ w) (let e : 2 ^ (16 - w) - 1 - s / 2 ^ w + (s / 2 ^ w + 1) ≡ 2 ^ (16 - w) = omega arith in e) ∙ sym whole in
+      ap (λ (n : ℕ). n * 2 ^ w) (let e : 2 ^ (16 - w) - 1 - s / 2 ^ w + (s / 2 ^ w + 1) ≡ 2 ^ (16 - w) = omega arith in e) ∙ sym whole in
       let total : v + (65536 - s) ≡ (2 ^ (16 - w) - 1 - s / 2 ^ w) * 2 ^ w + (v + (2 ^ w - s % 2 ^ w)) = omega arith in
       and-mask ((v + (65536 - s)) % 65536) w
       ∙ ap (λ (n : ℕ). (v + (65536 - s)) % 2 ^ n % 2 ^ w) (let e : 16 ≡ (16 - w) + w = omega arith in e)

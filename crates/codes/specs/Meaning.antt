@@ -86,7 +86,7 @@ pub record Lawful (m : Meaning) : Type 0 where
   pub noAny : (vs : List ℕ) → Values (m .fields) vs → All (λ d. sharp d ≡ true) (m .valueWord vs)
   -- a value word matches a box word exactly when the box holds the values
   pub matching : Small m → (vs : List ℕ) (bs : List (Option Span)) → Values (m .fields) vs → Boxes (m .fields) bs
-    → fits (m .valueWord vs) (m .boxWord bs) ≡ inBox (m .fields) vs bs
+      → fits (m .valueWord vs) (m .boxWord bs) ≡ inBox (m .fields) vs bs
 
 -- stands where there is no field
 abbrev pub noField : Field

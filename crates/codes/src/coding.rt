@@ -151,7 +151,11 @@ pub fn code_values<F: FieldCode>(code: &F, values: &[u16], out: &mut Word) -> Re
 }
 
 // Writes the box's word into `out` from digit 1 on; digit 0 and those behind the code's stay.
-pub fn code_box<F: FieldCode>(code: &F, sides: &[Option<Span>], out: &mut Word) -> Result<(), Refusal>
+pub fn code_box<F: FieldCode>(
+    code: &F,
+    sides: &[Option<Span>],
+    out: &mut Word,
+) -> Result<(), Refusal>
     ensures { λ r. ⌜ Coded (boxRefusal (F·FieldCode .meaning (now (code .entry))) (now (sides .entry))) (BoxPut (F·FieldCode .meaning (now (code .entry))) (now (sides .entry)) 1 (now (out .entry)) (now (out .exit))) (now (out .entry)) (now (out .exit)) r ⌝ }
 {
     if let Some(refusal) = check_box(code, sides) {

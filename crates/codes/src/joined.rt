@@ -37,7 +37,11 @@ fn part_of<P: FieldCode, Q: FieldCode>(first: &P, second: &Q, field: u16) -> Par
     ensures { λ r. ⌜ Located (P·FieldCode .meaning (now (first .entry)) .fields) (Q·FieldCode .meaning (now (second .entry)) .fields) field r ⌝ }
 {
     let n = first.fields();
-    if field < n { Part::First(field) } else { Part::Second(field - n) }
+    if field < n {
+        Part::First(field)
+    } else {
+        Part::Second(field - n)
+    }
 }
 
 // Counts stop at 65,535.
@@ -47,7 +51,13 @@ fn fields_of<P: FieldCode, Q: FieldCode>(first: &P, second: &Q) -> u16
     first.fields().saturating_add(second.fields())
 }
 
-fn put_values_of<P: FieldCode, Q: FieldCode>(first: &P, second: &Q, values: &[u16], at: u16, out: &mut Word)
+fn put_values_of<P: FieldCode, Q: FieldCode>(
+    first: &P,
+    second: &Q,
+    values: &[u16],
+    at: u16,
+    out: &mut Word,
+)
     requires small { ⌜ Small (joined (P·FieldCode .meaning (now first)) (Q·FieldCode .meaning (now second))) ⌝ }
     requires good { ⌜ Values (P·FieldCode .meaning (now first) .fields ++ Q·FieldCode .meaning (now second) .fields) (now values) ⌝ }
     requires within { ⌜ at + (P·FieldCode .meaning (now first) .size + Q·FieldCode .meaning (now second) .size) ≤ 256 ⌝ }
@@ -60,7 +70,13 @@ fn put_values_of<P: FieldCode, Q: FieldCode>(first: &P, second: &Q, values: &[u1
     second.put_values(back, at + d, out);
 }
 
-fn put_box_of<P: FieldCode, Q: FieldCode>(first: &P, second: &Q, sides: &[Option<Span>], at: u16, out: &mut Word)
+fn put_box_of<P: FieldCode, Q: FieldCode>(
+    first: &P,
+    second: &Q,
+    sides: &[Option<Span>],
+    at: u16,
+    out: &mut Word,
+)
     requires small { ⌜ Small (joined (P·FieldCode .meaning (now first)) (Q·FieldCode .meaning (now second))) ⌝ }
     requires good { ⌜ Boxes (P·FieldCode .meaning (now first) .fields ++ Q·FieldCode .meaning (now second) .fields) (now sides) ⌝ }
     requires within { ⌜ at + (P·FieldCode .meaning (now first) .size + Q·FieldCode .meaning (now second) .size) ≤ 256 ⌝ }

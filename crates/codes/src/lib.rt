@@ -3,9 +3,9 @@
 //
 // `code` is the interface with its law, `joined` makes one code of two, and `coding` has the
 // calls for users, which refuse what does not fit. docs/codes.md has the rules.
-pub mod width;
-pub mod span;
 pub mod code;
-pub mod run;
-pub mod joined;
 pub mod coding;
+pub mod joined;
+pub mod run;
+pub mod span;
+pub mod width;

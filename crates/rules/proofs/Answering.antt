@@ -58,7 +58,7 @@ module _ (m : Meaning) (law : Lawful m) (vs : List ℕ) (small : Small m) (good 
       let later = firstFrom (i + 1) (map (rowOf m) rs ++ replicate k emptyRow) key in
       ap (λ b. mapped told (cond b (Some (i, t)) later)) (rule-fits (r .sides) (box-good m (r .sides) (ts .0) .1))
       ∙ either (inBox (m .fields) vs (r .sides)) i t later (r .number, r .class) (listGives (m .fields) rs vs)
-        (tag-tells (r .number) (r .class) (ps .0)) (first-gives rs (ts .1) (ps .1) k (i + 1))
+      (tag-tells (r .number) (r .class) (ps .0)) (first-gives rs (ts .1) (ps .1) k (i + 1))
 
 -- the first matching row's number and class are what the list gives
 held-gives : (m : Meaning) → Lawful m → (rs : List Rule) (rows : List Row) → Held m rs rows → (vs : List ℕ) → valuesRefusal m vs ≡ None
@@ -73,11 +73,13 @@ more : (m : Meaning) (rs : List Rule) (r : Rule) (k : ℕ) (rows : List Row) →
     → (j : ℕ) × (set rows (length rs) (rowOf m r) ≡ map (rowOf m) (rs ++ r ∷ []) ++ replicate j emptyRow)
 more m rs r zero rows e h =
     let l = ap length e ∙ length-append (map (rowOf m) rs) [] in let n = length-map rs (rowOf m) in absurd (omega arith)
-more m rs r (suc k) rows e h = (k,
-    ap (λ (l : List Row). set l (length rs) (rowOf m r)) e
-    ∙ set-at (map (rowOf m) rs) emptyRow (replicate k emptyRow) (rowOf m r) (length rs) (length-map rs (rowOf m))
-    ∙ sym (append-assoc (map (rowOf m) rs) (rowOf m r ∷ []) (replicate k emptyRow))
-    ∙ ap (λ (l : List Row). l ++ replicate k emptyRow) (sym (map-append (rowOf m) rs (r ∷ []))))
+more m rs r (suc k) rows e h = (
+  k,
+  ap (λ (l : List Row). set l (length rs) (rowOf m r)) e
+      ∙ set-at (map (rowOf m) rs) emptyRow (replicate k emptyRow) (rowOf m r) (length rs) (length-map rs (rowOf m))
+      ∙ sym (append-assoc (map (rowOf m) rs) (rowOf m r ∷ []) (replicate k emptyRow))
+      ∙ ap (λ (l : List Row). l ++ replicate k emptyRow) (sym (map-append (rowOf m) rs (r ∷ []))),
+)
 
 held-more : (m : Meaning) (rs : List Rule) (r : Rule) (rows : List Row) → Held m rs rows → length rs < length rows → boxRefusal m (r .sides) ≡ None
     → r .class < 65536 → Held m (rs ++ r ∷ []) (set rows (length rs) (rowOf m r))
@@ -93,9 +95,9 @@ held-more m rs r rows h l t c =
 put-in : (rows : List Row) (row : ℕ) → putAnswer rows row ≡ Ok tt → row < length rows
 put-in rows row e = by (ltb row (length rows)) refl e
   where
-  by : (b : Bool) → ltb row (length rows) ≡ b → _≡_ {A = Result (Unit {0}) Report} (cond b (Ok tt) (Err (noRow row))) (Ok tt) → row < length rows
-  by true q f = ltb-true row (length rows) q
-  by false q f = let z : _≡_ {A = ℕ} 0 1 = cc in absurd (omega arith)
+    by : (b : Bool) → ltb row (length rows) ≡ b → _≡_ {A = Result (Unit {0}) Report} (cond b (Ok tt) (Err (noRow row))) (Ok tt) → row < length rows
+    by true q f = ltb-true row (length rows) q
+    by false q f = let z : _≡_ {A = ℕ} 0 1 = cc in absurd (omega arith)
 
 -- an accepted rule, placed behind a list that the rows hold, makes them hold the longer list
 pub placed-held : (m : Meaning) (rs : List Rule) (r : Rule) (rows after : List Row) (row : ℕ) → Held m rs rows → row ≡ length rs
@@ -103,11 +105,11 @@ pub placed-held : (m : Meaning) (rs : List Rule) (r : Rule) (rows after : List R
     → Held m (rs ++ r ∷ []) after
 placed-held m rs r rows after row h e a c p = by (boxRefusal m (r .sides)) refl a p
   where
-  by : (o : Option Report) → boxRefusal m (r .sides) ≡ o → unlessRefused o (putAnswer rows row) ≡ Ok tt → after ≡ placedRows o rows (set rows row (rowOf m r)) → Held m (rs ++ r ∷ []) after
-  by None q f s =
-      let l = put-in rows row f in
-      subst (Held m (rs ++ r ∷ [])) (sym (s ∙ ap (λ (n : ℕ). set rows n (rowOf m r)) e)) (held-more m rs r rows h (omega arith) q c)
-  by (Some x) q f s = let z : _≡_ {A = ℕ} 0 1 = cc in absurd (omega arith)
+    by : (o : Option Report) → boxRefusal m (r .sides) ≡ o → unlessRefused o (putAnswer rows row) ≡ Ok tt → after ≡ placedRows o rows (set rows row (rowOf m r)) → Held m (rs ++ r ∷ []) after
+    by None q f s =
+        let l = put-in rows row f in
+        subst (Held m (rs ++ r ∷ [])) (sym (s ∙ ap (λ (n : ℕ). set rows n (rowOf m r)) e)) (held-more m rs r rows h (omega arith) q c)
+    by (Some x) q f s = let z : _≡_ {A = ℕ} 0 1 = cc in absurd (omega arith)
 
 pub class-gives : (m : Meaning) → Lawful m → (rs : List Rule) (rows : List Row) → Held m rs rows → (vs : List ℕ) → valuesRefusal m vs ≡ None
     → classAnswer m rows vs ≡ Ok (listGives (m .fields) rs vs)

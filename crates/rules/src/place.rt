@@ -8,17 +8,24 @@ ghost use Rattle.std.specs.declared.result.Result.the-variants.{Ok, Err};
 ghost use Rattle.ternary.specs.Refusals.{answered};
 ghost use Rattle.codes.specs.Coding.{valuesRefusal, boxRefusal};
 ghost use Rattle.rules.specs.Rules.{Rule, rule, rowOf, listGives, placeAnswer, placedRows, classAnswer, Held, Empty-rows-law};
-use chips::chip::Chip;
-use codes::code::FieldCode;
-use codes::span::Span;
 use crate::row::key_word;
 use crate::row::rule_word;
 use crate::tag::number_and_class;
 use crate::tag::tag_of;
+use chips::chip::Chip;
+use codes::code::FieldCode;
+use codes::span::Span;
 use ternary::refusal::Refusal;
 
 // Writes a rule's word and tag into a row.
-fn put_rule<C: Chip, F: FieldCode>(chip: &mut C, code: &F, row: u16, number: u16, class: u16, sides: &[Option<Span>]) -> Result<(), Refusal>
+fn put_rule<C: Chip, F: FieldCode>(
+    chip: &mut C,
+    code: &F,
+    row: u16,
+    number: u16,
+    class: u16,
+    sides: &[Option<Span>],
+) -> Result<(), Refusal>
     ensures answer { λ r. ⌜ answered r ≡ placeAnswer (F·FieldCode .meaning (now (code .entry))) (C·Chip .rows (now (chip .entry))) row (now (sides .entry)) ⌝ }
     ensures after { λ _. ⌜ C·Chip .rows (now (chip .exit)) ≡ placedRows (boxRefusal (F·FieldCode .meaning (now (code .entry))) (now (sides .entry))) (C·Chip .rows (now (chip .entry))) (set (C·Chip .rows (now (chip .entry))) row (rowOf (F·FieldCode .meaning (now (code .entry))) (rule number class (now (sides .entry))))) ⌝ }
     ensures lent { λ _. ⌜ C·Chip .loans (now (chip .exit)) ≡ C·Chip .loans (now (chip .entry)) ⌝ }
@@ -32,7 +39,14 @@ fn put_rule<C: Chip, F: FieldCode>(chip: &mut C, code: &F, row: u16, number: u16
 // Writes a rule into a row; a refusal changes nothing.
 //
 // Where the rows hold a rule list and the row is the first behind it, they then hold the list with this rule at its end.
-pub fn place_rule<C: Chip, F: FieldCode>(chip: &mut C, code: &F, row: u16, number: u16, class: u16, sides: &[Option<Span>]) -> Result<(), Refusal>
+pub fn place_rule<C: Chip, F: FieldCode>(
+    chip: &mut C,
+    code: &F,
+    row: u16,
+    number: u16,
+    class: u16,
+    sides: &[Option<Span>],
+) -> Result<(), Refusal>
     ensures answer { λ r. ⌜ answered r ≡ placeAnswer (F·FieldCode .meaning (now (code .entry))) (C·Chip .rows (now (chip .entry))) row (now (sides .entry)) ⌝ }
     ensures after { λ _. ⌜ C·Chip .rows (now (chip .exit)) ≡ placedRows (boxRefusal (F·FieldCode .meaning (now (code .entry))) (now (sides .entry))) (C·Chip .rows (now (chip .entry))) (set (C·Chip .rows (now (chip .entry))) row (rowOf (F·FieldCode .meaning (now (code .entry))) (rule number class (now (sides .entry))))) ⌝ }
     ensures lent { λ _. ⌜ C·Chip .loans (now (chip .exit)) ≡ C·Chip .loans (now (chip .entry)) ⌝ }
@@ -42,7 +56,11 @@ pub fn place_rule<C: Chip, F: FieldCode>(chip: &mut C, code: &F, row: u16, numbe
 }
 
 // Number and class of the first row that matches the telegram's key.
-fn find_class<C: Chip, F: FieldCode>(chip: &C, code: &F, values: &[u16]) -> Result<Option<(u16, u16)>, Refusal>
+fn find_class<C: Chip, F: FieldCode>(
+    chip: &C,
+    code: &F,
+    values: &[u16],
+) -> Result<Option<(u16, u16)>, Refusal>
     ensures { λ r. ⌜ answered r ≡ classAnswer (F·FieldCode .meaning (now (code .entry))) (C·Chip .rows (now (chip .entry))) (now (values .entry)) ⌝ }
 {
     match key_word(code, values) {
@@ -57,7 +75,11 @@ fn find_class<C: Chip, F: FieldCode>(chip: &C, code: &F, values: &[u16]) -> Resu
 // Classes a telegram by the first row that matches its key: the rule's number and its class, or none.
 //
 // Where the rows hold a rule list, that is what the list gives: the first rule in order whose box holds the values.
-pub fn class_of<C: Chip, F: FieldCode>(chip: &C, code: &F, values: &[u16]) -> Result<Option<(u16, u16)>, Refusal>
+pub fn class_of<C: Chip, F: FieldCode>(
+    chip: &C,
+    code: &F,
+    values: &[u16],
+) -> Result<Option<(u16, u16)>, Refusal>
     ensures answer { λ r. ⌜ answered r ≡ classAnswer (F·FieldCode .meaning (now (code .entry))) (C·Chip .rows (now (chip .entry))) (now (values .entry)) ⌝ }
     ensures gives { λ r. ⌜ ((rs : List Rule) → Held (F·FieldCode .meaning (now (code .entry))) rs (C·Chip .rows (now (chip .entry))) → valuesRefusal (F·FieldCode .meaning (now (code .entry))) (now (values .entry)) ≡ None → answered r ≡ Ok (listGives (F·FieldCode .meaning (now (code .entry)) .fields) rs (now (values .entry)))) ⌝ }
 {

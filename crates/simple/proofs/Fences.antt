@@ -56,20 +56,22 @@ module _ (w : ℕ) (v : ℕ) (s : Span) (hv : v < 2 ^ w) (hs : s .low < 2 ^ w) (
   fence-span =
       let l = s .low in let t = s .low + s .len in
       let d = fits-map (fenceDigit v) (fenceSide (Some s)) 1 (2 ^ w - 1) in
-      same-from-decides {P = (l ≤ v) × (v < t)} _ _
-        ( (λ e.
-            ( ⊎-elim (λ (b : v < l).
-                let a = agree-fence (leb l v) (leb l l) (leb t l) (d .0 e l (omega arith) (omega arith)) in
-                let g = leb-true l v (a .0 (le-leb l l (omega arith))) in absurd (omega arith))
-                (λ b. b) (cases-lt v l)
-            , ⊎-elim (λ b. b) (λ (b : t ≤ v).
-                let a = agree-fence (leb t v) (leb t l) (leb t t) (d .0 e t (omega arith) (omega arith)) in
-                let g = leb-false t v (a .1 (lt-leb t l (omega arith)) (le-leb t t (omega arith))) in absurd (omega arith)) (cases-lt v t)))
-        , (λ p. d .1 (λ i lo hi.
+      same-from-decides {P = (l ≤ v) × (v < t)} _ _ (
+        (λ e. (
+          ⊎-elim (λ (b : v < l).
+              let a = agree-fence (leb l v) (leb l l) (leb t l) (d .0 e l (omega arith) (omega arith)) in
+              let g = leb-true l v (a .0 (le-leb l l (omega arith))) in absurd (omega arith))
+              (λ b. b) (cases-lt v l),
+          ⊎-elim (λ b. b) (λ (b : t ≤ v).
+              let a = agree-fence (leb t v) (leb t l) (leb t t) (d .0 e t (omega arith) (omega arith)) in
+              let g = leb-false t v (a .1 (lt-leb t l (omega arith)) (le-leb t t (omega arith))) in absurd (omega arith)) (cases-lt v t),
+        )),
+        (λ p. d .1 (λ i lo hi.
             fence-agree (leb i v) (leb i l) (leb t i)
-              (λ y. le-leb i v (omega (arith, leb-true i l y, p .0)))
-              (λ y z. lt-leb i v (omega (arith, leb-true t i z, p .1))))))
-        (straight (2 ^ w) l (s .len) v hv hs ht)
+            (λ y. le-leb i v (omega (arith, leb-true i l y, p .0)))
+            (λ y z. lt-leb i v (omega (arith, leb-true t i z, p .1))))),
+      )
+      (straight (2 ^ w) l (s .len) v hv hs ht)
 
 any-fits : (f : ℕ → Digit) (w : ℕ) → fits (fenced f w) (fenced (fenceSide None) w) ≡ true
 unfolding fenced
@@ -91,23 +93,26 @@ fenced-sharp v w = all-map (λ d. sharp d ≡ true) (fenceDigit v) (sharp-fence 
 pub fence-lawful : (w : ℕ) → 1 ≤ w → w ≤ 6 → Lawful (fence w)
 fence-lawful w h k = record {
   some = omega arith;
-  each = (record {
-    least = h;
-    most = omega arith;
-    single = λ s lt. le-leb (s + 1) (2 ^ w) (omega arith);
-    reaches = λ q r lt le. le-leb (q - r + (min (2 ^ w - 1) (q + r) + 1 - (q - r))) (2 ^ w) (omega arith);
-  }, tt);
+  each = (
+    record {
+      least = h;
+      most = omega arith;
+      single = λ s lt. le-leb (s + 1) (2 ^ w) (omega arith);
+      reaches = λ q r lt le. le-leb (q - r + (min (2 ^ w - 1) (q + r) + 1 - (q - r))) (2 ^ w) (omega arith);
+    },
+    tt,
+  );
   valueSize = λ vs t. fenced-length (fenceDigit (getD vs 0 0)) w;
   boxSize = λ bs t. fenced-length (fenceSide (getD bs 0 None)) w;
   noAny = λ vs t. fenced-sharp (getD vs 0 0) w;
   matching = match;
 }
   where
-  match : Small (fence w) → (vs : List ℕ) (bs : List (Option Span)) → Values (fenceField w ∷ []) vs → Boxes (fenceField w ∷ []) bs
-      → fits (fenced (fenceDigit (getD vs 0 0)) w) (fenced (fenceSide (getD bs 0 None)) w) ≡ inBox (fenceField w ∷ []) vs bs
-  match small [] bs t u = absurd t
-  match small (v ∷ vs) [] t u = absurd u
-  match small (v ∷ vs) (None ∷ bs) t u = any-fits (fenceDigit v) w
-  match small (v ∷ vs) (Some s ∷ bs) t u =
-      let p = in-field-parts w s (u .0 .0) in
-      fence-span w v s (t .0) (p .0) (p .1) (leb-true _ _ (u .0 .1)) ∙ sym (and-one (holds w (Some s) v))
+    match : Small (fence w) → (vs : List ℕ) (bs : List (Option Span)) → Values (fenceField w ∷ []) vs → Boxes (fenceField w ∷ []) bs
+        → fits (fenced (fenceDigit (getD vs 0 0)) w) (fenced (fenceSide (getD bs 0 None)) w) ≡ inBox (fenceField w ∷ []) vs bs
+    match small [] bs t u = absurd t
+    match small (v ∷ vs) [] t u = absurd u
+    match small (v ∷ vs) (None ∷ bs) t u = any-fits (fenceDigit v) w
+    match small (v ∷ vs) (Some s ∷ bs) t u =
+        let p = in-field-parts w s (u .0 .0) in
+        fence-span w v s (t .0) (p .0) (p .1) (leb-true _ _ (u .0 .1)) ∙ sym (and-one (holds w (Some s) v))

@@ -41,7 +41,11 @@ impl FenceCode {
 fn value_digit(value: u16, i: u32) -> Digit
     ensures { λ r. ⌜ r ≡ fenceDigit value i ⌝ }
 {
-    if i <= value as u32 { Digit::One } else { Digit::Zero }
+    if i <= value as u32 {
+        Digit::One
+    } else {
+        Digit::Zero
+    }
 }
 
 // Digit i of a side of a box: 1 up to the low end, 0 above the high end, * between.
@@ -126,12 +130,18 @@ pub impl FieldCode for FenceCode as FenceFieldCode {
     }
 
     fn put_values(&self, values: &[u16], at: u16, out: &mut Word) {
-        let value = values[0];
-        put_run(&FenceValue { width: self.width, value }, at, out);
+        let run = FenceValue {
+            width: self.width,
+            value: values[0],
+        };
+        put_run(&run, at, out);
     }
 
     fn put_box(&self, sides: &[Option<Span>], at: u16, out: &mut Word) {
-        let side = sides[0];
-        put_run(&FenceSide { width: self.width, side }, at, out);
+        let run = FenceSide {
+            width: self.width,
+            side: sides[0],
+        };
+        put_run(&run, at, out);
     }
 }

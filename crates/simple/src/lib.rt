@@ -1,3 +1,3 @@
 // The two simple codes of one field: plain binary digits, and a fence of thresholds. docs/codes.md has the rules.
-pub mod plain;
 pub mod fence;
+pub mod plain;

@@ -53,7 +53,11 @@ fn value_digit(value: u16, b: u8) -> Digit
     requires { ⌜ b < 16 ⌝ }
     ensures { λ r. ⌜ r ≡ plainDigit value b ⌝ }
 {
-    if (value >> b) & 1 == 1 { Digit::One } else { Digit::Zero }
+    if (value >> b) & 1 == 1 {
+        Digit::One
+    } else {
+        Digit::Zero
+    }
 }
 
 // The digit of bit b of a side of a box.
@@ -129,7 +133,11 @@ pub impl FieldCode for PlainCode as PlainFieldCode {
     }
 
     fn accepts(&self, _field: u16, span: Span) -> bool {
-        if is_power(self.width.bits(), span.len) { span.low as u32 % span.len == 0 } else { false }
+        if is_power(self.width.bits(), span.len) {
+            span.low as u32 % span.len == 0
+        } else {
+            false
+        }
     }
 
     fn reach(&self, _field: u16) -> u16 {
@@ -137,12 +145,18 @@ pub impl FieldCode for PlainCode as PlainFieldCode {
     }
 
     fn put_values(&self, values: &[u16], at: u16, out: &mut Word) {
-        let value = values[0];
-        put_run(&PlainValue { width: self.width, value }, at, out);
+        let run = PlainValue {
+            width: self.width,
+            value: values[0],
+        };
+        put_run(&run, at, out);
     }
 
     fn put_box(&self, sides: &[Option<Span>], at: u16, out: &mut Word) {
-        let side = sides[0];
-        put_run(&PlainSide { width: self.width, side }, at, out);
+        let run = PlainSide {
+            width: self.width,
+            side: sides[0],
+        };
+        put_run(&run, at, out);
     }
 }

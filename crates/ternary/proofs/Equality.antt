@@ -45,16 +45,17 @@ pub equal-words : (a b : Word) (c d e f : ℕ) → c ≡ apart a b 0 → d ≡ a
 equal-words a b c d e f p q r s =
     let both = or-four (apart a b) c d e f p q r s in (
       λ t. let none = both .0 t in
-        digits-planes a b
-        (plane-eq (a .care) (b .care) (a .careLong) (b .careLong) (λ k h. xor-none (getD (a .care) k 0) (getD (b .care) k 0) (parts k (none k h) .0)))
-        (plane-eq (a .ones) (b .ones) (a .onesLong) (b .onesLong) (λ k h. xor-none (getD (a .ones) k 0) (getD (b .ones) k 0) (parts k (none k h) .1))),
+          digits-planes a b
+          (plane-eq (a .care) (b .care) (a .careLong) (b .careLong) (λ k h. xor-none (getD (a .care) k 0) (getD (b .care) k 0) (parts k (none k h) .0)))
+          (plane-eq (a .ones) (b .ones) (a .onesLong) (b .onesLong) (λ k h. xor-none (getD (a .ones) k 0) (getD (b .ones) k 0) (parts k (none k h) .1))),
       λ same. both .1 (λ k h.
-        ap₂ bitOr (ap (λ (x : ℕ). bitXor x (getD (b .care) k 0)) (care-equal a b same k h) ∙ xor-self (getD (b .care) k 0))
-        (ap (λ (x : ℕ). bitXor x (getD (b .ones) k 0)) (ones-equal a b same k h) ∙ xor-self (getD (b .ones) k 0))),
+          ap₂ bitOr (ap (λ (x : ℕ). bitXor x (getD (b .care) k 0)) (care-equal a b same k h) ∙ xor-self (getD (b .care) k 0))
+          (ap (λ (x : ℕ). bitXor x (getD (b .ones) k 0)) (ones-equal a b same k h) ∙ xor-self (getD (b .ones) k 0))),
     )
   where
-  parts : (k : ℕ) → apart a b k ≡ 0 → (bitXor (getD (a .care) k 0) (getD (b .care) k 0) ≡ 0) × (bitXor (getD (a .ones) k 0) (getD (b .ones) k 0) ≡ 0)
-  parts k e = or-none (bitXor (getD (a .care) k 0) (getD (b .care) k 0)) (bitXor (getD (a .ones) k 0) (getD (b .ones) k 0)) e
+    parts : (k : ℕ) → apart a b k ≡ 0 → (bitXor (getD (a .care) k 0) (getD (b .care) k 0) ≡ 0) × (bitXor (getD (a .ones) k 0) (getD (b .ones) k 0) ≡ 0)
+    parts k e = or-none (bitXor (getD (a .care) k 0) (getD (b .care) k 0)) (bitXor (getD (a .ones) k 0) (getD (b .ones) k 0)) e
+
 kept-prop : (cs os : List ℕ) → IsProp (Kept cs os)
 kept-prop cs os = ×-prop (search props) (×-prop (search props) (×-prop (search props) (×-prop (search props) (×-prop (search props) Unit-prop))))
 
@@ -63,9 +64,14 @@ Packed = (p : List ℕ × List ℕ) × Kept (p .0) (p .1)
 
 word-of : Packed → Word
 word-of v = record {
-    care = v .0 .0; ones = v .0 .1; careLong = v .1 .0; onesLong = v .1 .1 .0; careFits = v .1 .1 .1 .0; onesFits = v .1 .1 .1 .1 .0;
-    within = v .1 .1 .1 .1 .1 .0;
-  }
+  care = v .0 .0;
+  ones = v .0 .1;
+  careLong = v .1 .0;
+  onesLong = v .1 .1 .0;
+  careFits = v .1 .1 .1 .0;
+  onesFits = v .1 .1 .1 .1 .0;
+  within = v .1 .1 .1 .1 .1 .0;
+}
 
 packed : Word → Packed
 packed w = ((w .care, w .ones), (w .careLong, (w .onesLong, (w .careFits, (w .onesFits, (w .within, tt))))))
@@ -75,4 +81,4 @@ unfolding word-of packed
 words-law a b e =
     ap word-of (Σ-prop-path {A = List ℕ × List ℕ} {B = λ p. Kept (p .0) (p .1)} (λ p. kept-prop (p .0) (p .1)) {u = packed a} {v = packed b}
     (ap₂ (λ (x y : List ℕ). (x, y))
-      (plane-eq (a .care) (b .care) (a .careLong) (b .careLong) (care-equal a b e)) (plane-eq (a .ones) (b .ones) (a .onesLong) (b .onesLong) (ones-equal a b e))))
+    (plane-eq (a .care) (b .care) (a .careLong) (b .careLong) (care-equal a b e)) (plane-eq (a .ones) (b .ones) (a .onesLong) (b .onesLong) (ones-equal a b e))))

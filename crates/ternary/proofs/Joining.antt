@@ -46,8 +46,8 @@ module _ (a b : Word) (cs os : List ℕ)
       ap (λ (n : ℕ). bit n (p % 64)) (ones k lt)
       ∙ bit-or (getD (a .ones) k 0) (bitAnd (getD (b .ones) k 0) (2 ^ 64 - 1 - getD (a .care) k 0)) (p % 64)
       ∙ ap (λ t. bit (getD (a .ones) k 0) (p % 64) || t)
-        (bit-and (getD (b .ones) k 0) (2 ^ 64 - 1 - getD (a .care) k 0) (p % 64)
-        ∙ ap (λ t. bit (getD (b .ones) k 0) (p % 64) && t) (bit-not 64 (getD (a .care) k 0) (p % 64) (a .careFits k lt) (omega arith)))
+      (bit-and (getD (b .ones) k 0) (2 ^ 64 - 1 - getD (a .care) k 0) (p % 64)
+      ∙ ap (λ t. bit (getD (b .ones) k 0) (p % 64) && t) (bit-not 64 (getD (a .care) k 0) (p % 64) (a .careFits k lt) (omega arith)))
 
   join-care-fits : Fitting cs
   join-care-fits k h = rw (care k h) (or-lt 64 (getD (a .care) k 0) (getD (b .care) k 0) (a .careFits k h) (b .careFits k h))
@@ -59,19 +59,33 @@ module _ (a b : Word) (cs os : List ℕ)
       rw (ones k h) (or-lt 64 (getD (a .ones) k 0) (bitAnd (getD (b .ones) k 0) (2 ^ 64 - 1 - getD (a .care) k 0)) (a .onesFits k h) (omega arith))
 
   pub join-kept : length cs ≡ 4 → length os ≡ 4 → Kept cs os
-  join-kept lc lo = (lc, (lo, (join-care-fits, (join-ones-fits, (
-    (λ p h. ap₂ (λ o c. o && not c) (join-ones p h) (join-care p h)
-      ∙ join-within (planeBit (a .care) p) (planeBit (a .ones) p) (planeBit (b .care) p) (planeBit (b .ones) p) (a .within p h) (b .within p h)), tt)))))
+  join-kept lc lo = (
+    lc,
+    (
+      lo,
+      (
+        join-care-fits,
+        (
+          join-ones-fits,
+          (
+            (λ p h. ap₂ (λ o c. o && not c) (join-ones p h) (join-care p h)
+                ∙ join-within (planeBit (a .care) p) (planeBit (a .ones) p) (planeBit (b .care) p) (planeBit (b .ones) p) (a .within p h) (b .within p h)),
+            tt,
+          ),
+        ),
+      ),
+    ),
+  )
 
   pub join-digits : (v : Word) → v .care ≡ cs → v .ones ≡ os → digits v ≡ joining (digits a) (digits b)
   unfolding digitAt
   join-digits v e f =
       let l = digits-length a in
       digits-from v (joining (digits a) (digits b)) (joining-length (digits a) (digits b) ∙ digits-length a)
-        (λ p h.
-          ap₂ digitOf (ap (λ xs. planeBit xs p) e ∙ join-care p h) (ap (λ xs. planeBit xs p) f ∙ join-ones p h)
-          ∙ join-digit (planeBit (a .care) p) (planeBit (a .ones) p) (planeBit (b .care) p) (planeBit (b .ones) p) (a .within p h)
-          ∙ sym (joining-at (digits a) (digits b) p (omega arith) ∙ ap₂ over (digits-at a p h) (digits-at b p h)))
+      (λ p h.
+      ap₂ digitOf (ap (λ xs. planeBit xs p) e ∙ join-care p h) (ap (λ xs. planeBit xs p) f ∙ join-ones p h)
+      ∙ join-digit (planeBit (a .care) p) (planeBit (a .ones) p) (planeBit (b .care) p) (planeBit (b .ones) p) (a .within p h)
+      ∙ sym (joining-at (digits a) (digits b) p (omega arith) ∙ ap₂ over (digits-at a p h) (digits-at b p h)))
 
 -- a plane of four limbs that are each what f tells
 pub limbs-are : (f : ℕ → ℕ) {x y z u : ℕ} → x ≡ f 0 → y ≡ f 1 → z ≡ f 2 → u ≡ f 3 → (k : ℕ) → k < 4 → getD (x ∷ y ∷ z ∷ u ∷ []) k 0 ≡ f k

@@ -46,18 +46,18 @@ pub blank-digits : (w : Word) → ((p : ℕ) → planeBit (w .care) p ≡ false)
 unfolding digitAt
 blank-digits w none =
     digits-from w (replicate 256 Any) (length-replicate 256 Any)
-      (λ p h. ap (λ b. digitOf b (planeBit (w .ones) p)) (none p) ∙ sym (getD-replicate 256 p Any Any h))
+    (λ p h. ap (λ b. digitOf b (planeBit (w .ones) p)) (none p) ∙ sym (getD-replicate 256 p Any Any h))
 
 pub plane-none : (p : ℕ) → planeBit (0 ∷ 0 ∷ 0 ∷ 0 ∷ []) p ≡ false
 unfolding planeBit
 plane-none p = ap (λ (n : ℕ). bit n (p % 64)) (zeros (p / 64)) ∙ bit-zero (p % 64)
   where
-  zeros : (q : ℕ) → _≡_ {A = ℕ} (getD (0 ∷ 0 ∷ 0 ∷ 0 ∷ []) q 0) 0
-  zeros zero = refl
-  zeros (suc zero) = refl
-  zeros (suc (suc zero)) = refl
-  zeros (suc (suc (suc zero))) = refl
-  zeros (suc (suc (suc (suc q)))) = refl
+    zeros : (q : ℕ) → _≡_ {A = ℕ} (getD (0 ∷ 0 ∷ 0 ∷ 0 ∷ []) q 0) 0
+    zeros zero = refl
+    zeros (suc zero) = refl
+    zeros (suc (suc zero)) = refl
+    zeros (suc (suc (suc zero))) = refl
+    zeros (suc (suc (suc (suc q)))) = refl
 
 -- what a canonical digit tells of its bits
 abbrev pub isOne : Digit → Bool
@@ -70,6 +70,7 @@ one-of false false h = refl
 one-of false true h = h
 one-of true false h = refl
 one-of true true h = refl
+
 abbrev pub careOf : Digit → Bool
 careOf Zero = true
 careOf One = true
@@ -99,20 +100,20 @@ pub or-four : (f : ℕ → ℕ) (c d e g : ℕ) → c ≡ f 0 → d ≡ f 1 → 
     → Decides (eqb (bitOr (bitOr (bitOr c d) e) g) 0) ((k : ℕ) → k < 4 → f k ≡ 0)
 or-four f c d e g p q r s = (to, from)
   where
-  to : eqb (bitOr (bitOr (bitOr c d) e) g) 0 ≡ true → (k : ℕ) → k < 4 → f k ≡ 0
-  to t =
-      let x = or-none (bitOr (bitOr c d) e) g (eqb-true (bitOr (bitOr (bitOr c d) e) g) 0 t) in
-      let y = or-none (bitOr c d) e (x .0) in
-      let z = or-none c d (y .0) in
-      four (λ k. f k ≡ 0) (sym p ∙ z .0) (sym q ∙ z .1) (sym r ∙ y .1) (sym s ∙ x .1)
-  from : ((k : ℕ) → k < 4 → f k ≡ 0) → eqb (bitOr (bitOr (bitOr c d) e) g) 0 ≡ true
-  from none =
-      let c0 : c ≡ 0 = p ∙ none 0 (omega arith) in
-      let d0 : d ≡ 0 = q ∙ none 1 (omega arith) in
-      let e0 : e ≡ 0 = r ∙ none 2 (omega arith) in
-      let f0 : g ≡ 0 = s ∙ none 3 (omega arith) in
-      eq-eqb (bitOr (bitOr (bitOr c d) e) g) 0 (ap₂ bitOr (ap₂ bitOr (ap₂ bitOr c0 d0) e0) f0)
+    to : eqb (bitOr (bitOr (bitOr c d) e) g) 0 ≡ true → (k : ℕ) → k < 4 → f k ≡ 0
+    to t =
+        let x = or-none (bitOr (bitOr c d) e) g (eqb-true (bitOr (bitOr (bitOr c d) e) g) 0 t) in
+        let y = or-none (bitOr c d) e (x .0) in
+        let z = or-none c d (y .0) in
+        four (λ k. f k ≡ 0) (sym p ∙ z .0) (sym q ∙ z .1) (sym r ∙ y .1) (sym s ∙ x .1)
 
+    from : ((k : ℕ) → k < 4 → f k ≡ 0) → eqb (bitOr (bitOr (bitOr c d) e) g) 0 ≡ true
+    from none =
+        let c0 : c ≡ 0 = p ∙ none 0 (omega arith) in
+        let d0 : d ≡ 0 = q ∙ none 1 (omega arith) in
+        let e0 : e ≡ 0 = r ∙ none 2 (omega arith) in
+        let f0 : g ≡ 0 = s ∙ none 3 (omega arith) in
+        eq-eqb (bitOr (bitOr (bitOr c d) e) g) 0 (ap₂ bitOr (ap₂ bitOr (ap₂ bitOr c0 d0) e0) f0)
 
 pub plane-eq : (xs ys : List ℕ) → length xs ≡ 4 → length ys ≡ 4 → ((k : ℕ) → k < 4 → getD xs k 0 ≡ getD ys k 0) → xs ≡ ys
 plane-eq xs ys l m at = ext-getD 0 xs ys (l ∙ sym m) (λ k h. at k (omega arith))

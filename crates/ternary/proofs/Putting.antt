@@ -45,21 +45,21 @@ module _ (xs : List ℕ) (long : length xs ≡ 4) (fit : Fitting xs) (i : ℕ) (
   write v p f keeps at =
       ⊎-elim
       (λ e.
-        let in′ : i / 64 < length xs = omega arith in
-        let same : eqb (p % 64) (i % 64) ≡ eqb p i = grind (arith, tells) in
-        ap (λ (n : ℕ). bit n (p % 64)) (ap (λ (q : ℕ). getD (set xs (i / 64) v) q 0) e ∙ getD-set-same xs (i / 64) v 0 in′)
-        ∙ at (p % 64) (omega arith) ∙ ap₂ (λ (q : ℕ) t. f (bit (getD xs q 0) (p % 64)) t) (sym e) same)
+      let in′ : i / 64 < length xs = omega arith in
+      let same : eqb (p % 64) (i % 64) ≡ eqb p i = grind (arith, tells) in
+      ap (λ (n : ℕ). bit n (p % 64)) (ap (λ (q : ℕ). getD (set xs (i / 64) v) q 0) e ∙ getD-set-same xs (i / 64) v 0 in′)
+      ∙ at (p % 64) (omega arith) ∙ ap₂ (λ (q : ℕ) t. f (bit (getD xs q 0) (p % 64)) t) (sym e) same)
       (λ ne.
-        let off : eqb p i ≡ false = ne-eqb p i (λ e. ne (ap (λ (q : ℕ). q / 64) e)) in
-        ap (λ (n : ℕ). bit n (p % 64)) (getD-set-other xs (i / 64) (p / 64) v 0 ne)
-        ∙ sym (ap (f (bit (getD xs (p / 64) 0) (p % 64))) off ∙ keeps (bit (getD xs (p / 64) 0) (p % 64))))
+      let off : eqb p i ≡ false = ne-eqb p i (λ e. ne (ap (λ (q : ℕ). q / 64) e)) in
+      ap (λ (n : ℕ). bit n (p % 64)) (getD-set-other xs (i / 64) (p / 64) v 0 ne)
+      ∙ sym (ap (f (bit (getD xs (p / 64) 0) (p % 64))) off ∙ keeps (bit (getD xs (p / 64) 0) (p % 64))))
       (cases-eq (p / 64) (i / 64))
 
   set-fits : (v : ℕ) → v < 2 ^ 64 → Fitting (set xs (i / 64) v)
   set-fits v h k l =
       ⊎-elim
       (λ e. let in′ : i / 64 < length xs = omega arith in
-        let g : getD (set xs (i / 64) v) k 0 ≡ v = ap (λ (q : ℕ). getD (set xs (i / 64) v) q 0) e ∙ getD-set-same xs (i / 64) v 0 in′ in omega arith)
+      let g : getD (set xs (i / 64) v) k 0 ≡ v = ap (λ (q : ℕ). getD (set xs (i / 64) v) q 0) e ∙ getD-set-same xs (i / 64) v 0 in′ in omega arith)
       (λ ne. let g : getD (set xs (i / 64) v) k 0 ≡ getD xs k 0 = getD-set-other xs (i / 64) k v 0 ne in omega (arith, fit k l))
       (cases-eq k (i / 64))
 
@@ -72,13 +72,13 @@ module _ (xs : List ℕ) (long : length xs ≡ 4) (fit : Fitting xs) (i : ℕ) (
   pub plane-on : (p : ℕ) → planeBit (onAt xs i m) p ≡ (planeBit xs p || eqb p i)
   plane-on p =
       write (bitOr (getD xs (i / 64) 0) m) p (λ b t. b || t) or-false
-        (λ j h. bit-or (getD xs (i / 64) 0) m j ∙ ap (λ t. bit (getD xs (i / 64) 0) j || t) (ap (λ (n : ℕ). bit n j) is ∙ bit-pow (i % 64) j))
+      (λ j h. bit-or (getD xs (i / 64) 0) m j ∙ ap (λ t. bit (getD xs (i / 64) 0) j || t) (ap (λ (n : ℕ). bit n j) is ∙ bit-pow (i % 64) j))
 
   pub plane-off : (p : ℕ) → planeBit (offAt xs i m) p ≡ (planeBit xs p && not (eqb p i))
   plane-off p =
       write (bitAnd (getD xs (i / 64) 0) (2 ^ 64 - 1 - m)) p (λ b t. b && not t) and-true
-        (λ j h. bit-and (getD xs (i / 64) 0) (2 ^ 64 - 1 - m) j
-          ∙ ap (λ t. bit (getD xs (i / 64) 0) j && t) (bit-not 64 m j mask h ∙ ap not (ap (λ (n : ℕ). bit n j) is ∙ bit-pow (i % 64) j)))
+      (λ j h. bit-and (getD xs (i / 64) 0) (2 ^ 64 - 1 - m) j
+      ∙ ap (λ t. bit (getD xs (i / 64) 0) j && t) (bit-not 64 m j mask h ∙ ap not (ap (λ (n : ℕ). bit n j) is ∙ bit-pow (i % 64) j)))
 
   pub on-long : length (onAt xs i m) ≡ 4
   on-long = length-set xs (i / 64) (bitOr (getD xs (i / 64) 0) m) ∙ long
@@ -100,20 +100,20 @@ put-digits : (w v : Word) (i : ℕ) (d : Digit) → i < 256 → ((p : ℕ) → p
 put-digits w v i d lt at =
     let lw = digits-length w in
     digits-from v (set (digits w) i d) (length-set (digits w) i d ∙ lw)
-      (λ p hp.
-        let hi : i < length (digits w) = omega arith in
-        at p hp
-        ∙ ⊎-elim
-          (λ e. cond-true (eqb p i) d (digitAt w p) (eq-eqb p i e) ∙ sym (ap (λ (q : ℕ). getD (set (digits w) i d) q Any) e ∙ getD-set-same (digits w) i d Any hi))
-          (λ ne. cond-false (eqb p i) d (digitAt w p) (ne-eqb p i ne) ∙ sym (getD-set-other (digits w) i p d Any ne ∙ digits-at w p hp))
-          (cases-eq p i))
+    (λ p hp.
+    let hi : i < length (digits w) = omega arith in
+    at p hp
+    ∙ ⊎-elim
+    (λ e. cond-true (eqb p i) d (digitAt w p) (eq-eqb p i e) ∙ sym (ap (λ (q : ℕ). getD (set (digits w) i d) q Any) e ∙ getD-set-same (digits w) i d Any hi))
+    (λ ne. cond-false (eqb p i) d (digitAt w p) (ne-eqb p i ne) ∙ sym (getD-set-other (digits w) i p d Any ne ∙ digits-at w p hp))
+    (cases-eq p i))
 
 on-on : (c v t : Bool) → digitOf (c || t) (v || t) ≡ cond t One (digitOf c v)
 on-on c v true = ap₂ digitOf (or-true c) (or-true v)
   where
-  or-true : (b : Bool) → (b || true) ≡ true
-  or-true true = refl
-  or-true false = refl
+    or-true : (b : Bool) → (b || true) ≡ true
+    or-true true = refl
+    or-true false = refl
 on-on c v false = ap₂ digitOf (or-false c) (or-false v)
 
 on-off : (c v t : Bool) → digitOf (c || t) (v && not t) ≡ cond t Zero (digitOf c v)
@@ -149,31 +149,65 @@ in-off-off true true false h = refl
 in-off-off true false t h = refl
 in-off-off false true t h = absurd (true≢false h)
 in-off-off false false t h = refl
+
 module _ (w : Word) (i : ℕ) (lt : i < 256) (m : ℕ) (is : m ≡ 2 ^ (i % 64)) where
   care-on : (p : ℕ) → planeBit (onAt (w .care) i m) p ≡ (planeBit (w .care) p || eqb p i)
   care-on = plane-on (w .care) (w .careLong) (w .careFits) i lt m is
+
   care-off : (p : ℕ) → planeBit (offAt (w .care) i m) p ≡ (planeBit (w .care) p && not (eqb p i))
   care-off = plane-off (w .care) (w .careLong) (w .careFits) i lt m is
+
   ones-on : (p : ℕ) → planeBit (onAt (w .ones) i m) p ≡ (planeBit (w .ones) p || eqb p i)
   ones-on = plane-on (w .ones) (w .onesLong) (w .onesFits) i lt m is
+
   ones-off : (p : ℕ) → planeBit (offAt (w .ones) i m) p ≡ (planeBit (w .ones) p && not (eqb p i))
   ones-off = plane-off (w .ones) (w .onesLong) (w .onesFits) i lt m is
 
   -- what is put keeps the planes' facts
   pub kept-one : Kept (onAt (w .care) i m) (onAt (w .ones) i m)
-  kept-one = (on-long (w .care) (w .careLong) (w .careFits) i lt m is, (on-long (w .ones) (w .onesLong) (w .onesFits) i lt m is,
-    (on-fits (w .care) (w .careLong) (w .careFits) i lt m is, (on-fits (w .ones) (w .onesLong) (w .onesFits) i lt m is,
-    ((λ p h. ap₂ (λ o c. o && not c) (ones-on p) (care-on p) ∙ in-on-on (planeBit (w .care) p) (planeBit (w .ones) p) (eqb p i) (w .within p h)), tt)))))
+  kept-one = (
+    on-long (w .care) (w .careLong) (w .careFits) i lt m is,
+    (
+      on-long (w .ones) (w .onesLong) (w .onesFits) i lt m is,
+      (
+        on-fits (w .care) (w .careLong) (w .careFits) i lt m is,
+        (
+          on-fits (w .ones) (w .onesLong) (w .onesFits) i lt m is,
+          ((λ p h. ap₂ (λ o c. o && not c) (ones-on p) (care-on p) ∙ in-on-on (planeBit (w .care) p) (planeBit (w .ones) p) (eqb p i) (w .within p h)), tt),
+        ),
+      ),
+    ),
+  )
 
   pub kept-zero : Kept (onAt (w .care) i m) (offAt (w .ones) i m)
-  kept-zero = (on-long (w .care) (w .careLong) (w .careFits) i lt m is, (off-long (w .ones) (w .onesLong) (w .onesFits) i lt m is,
-    (on-fits (w .care) (w .careLong) (w .careFits) i lt m is, (off-fits (w .ones) (w .onesLong) (w .onesFits) i lt m is,
-    ((λ p h. ap₂ (λ o c. o && not c) (ones-off p) (care-on p) ∙ in-on-off (planeBit (w .care) p) (planeBit (w .ones) p) (eqb p i) (w .within p h)), tt)))))
+  kept-zero = (
+    on-long (w .care) (w .careLong) (w .careFits) i lt m is,
+    (
+      off-long (w .ones) (w .onesLong) (w .onesFits) i lt m is,
+      (
+        on-fits (w .care) (w .careLong) (w .careFits) i lt m is,
+        (
+          off-fits (w .ones) (w .onesLong) (w .onesFits) i lt m is,
+          ((λ p h. ap₂ (λ o c. o && not c) (ones-off p) (care-on p) ∙ in-on-off (planeBit (w .care) p) (planeBit (w .ones) p) (eqb p i) (w .within p h)), tt),
+        ),
+      ),
+    ),
+  )
 
   pub kept-any : Kept (offAt (w .care) i m) (offAt (w .ones) i m)
-  kept-any = (off-long (w .care) (w .careLong) (w .careFits) i lt m is, (off-long (w .ones) (w .onesLong) (w .onesFits) i lt m is,
-    (off-fits (w .care) (w .careLong) (w .careFits) i lt m is, (off-fits (w .ones) (w .onesLong) (w .onesFits) i lt m is,
-    ((λ p h. ap₂ (λ o c. o && not c) (ones-off p) (care-off p) ∙ in-off-off (planeBit (w .care) p) (planeBit (w .ones) p) (eqb p i) (w .within p h)), tt)))))
+  kept-any = (
+    off-long (w .care) (w .careLong) (w .careFits) i lt m is,
+    (
+      off-long (w .ones) (w .onesLong) (w .onesFits) i lt m is,
+      (
+        off-fits (w .care) (w .careLong) (w .careFits) i lt m is,
+        (
+          off-fits (w .ones) (w .onesLong) (w .onesFits) i lt m is,
+          ((λ p h. ap₂ (λ o c. o && not c) (ones-off p) (care-off p) ∙ in-off-off (planeBit (w .care) p) (planeBit (w .ones) p) (eqb p i) (w .within p h)), tt),
+        ),
+      ),
+    ),
+  )
 
   module _ (v : Word) where
     put-by : (d : Digit) (f g : Bool → Bool → Bool) → ((p : ℕ) → planeBit (v .care) p ≡ f (planeBit (w .care) p) (eqb p i))

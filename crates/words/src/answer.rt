@@ -1,13 +1,13 @@
 // The answer to a question.
+use crate::question::Asked;
+use crate::question::Make;
+use crate::question::Question;
+use crate::question::Setting;
 use codes::code::FieldCode;
 use codes::coding::code_box;
 use codes::coding::code_values;
 use codes::joined::JoinedCode;
 use codes::joined::JoinedFieldCode;
-use crate::question::Asked;
-use crate::question::Make;
-use crate::question::Question;
-use crate::question::Setting;
 use simple::fence::FenceCode;
 use simple::fence::FenceFieldCode;
 use simple::plain::PlainCode;
@@ -31,7 +31,12 @@ pub fn answer(heap: Global, question: &Question) -> Result<String, AllocError> {
     }
 }
 
-fn with_second<P: FieldCode + Copy>(heap: Global, first: P, second: Option<Setting>, asked: &Asked) -> Result<String, AllocError> {
+fn with_second<P: FieldCode + Copy>(
+    heap: Global,
+    first: P,
+    second: Option<Setting>,
+    asked: &Asked,
+) -> Result<String, AllocError> {
     let Some(setting) = second else {
         return word_of(heap, &first, asked);
     };

@@ -40,7 +40,11 @@ impl Question {
         let second = setting_at(words, 2);
         let at = if second.is_some() { 4 } else { 2 };
         match asked_at(heap, words, at)? {
-            Some(asked) => Ok(Some(Question { first, second, asked })),
+            Some(asked) => Ok(Some(Question {
+                first,
+                second,
+                asked,
+            })),
             None => Ok(None),
         }
     }
@@ -55,9 +59,15 @@ fn setting_at(words: &[&str], i: usize) -> Option<Setting> {
         Err(_) => return None,
     };
     if words[i] == "plain" {
-        Some(Setting { make: Make::Plain, bits })
+        Some(Setting {
+            make: Make::Plain,
+            bits,
+        })
     } else if words[i] == "fence" {
-        Some(Setting { make: Make::Fence, bits })
+        Some(Setting {
+            make: Make::Fence,
+            bits,
+        })
     } else {
         None
     }

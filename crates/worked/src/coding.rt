@@ -23,7 +23,11 @@ use ternary::word::calls::WordPartialEq;
 #[test]
 fn fence_span() -> Result<(), Fail> {
     let mut word = Word::blank();
-    code_box(&FenceCode::new(2)?, &[Some(Span { low: 1, len: 2 })], &mut word)?;
+    code_box(
+        &FenceCode::new(2)?,
+        &[Some(Span { low: 1, len: 2 })],
+        &mut word,
+    )?;
     check_eq(word.get(1), Digit::One)?;
     check_eq(word.get(2), Digit::Any)?;
     check_eq(word.get(3), Digit::Zero)?;
@@ -64,10 +68,22 @@ fn nine_before_ten() -> Result<(), Fail> {
     let before = word;
     let unaligned = Some(Span { low: 3, len: 2 });
     let too_long = Some(Span { low: 0, len: 5 });
-    check_eq(code_box(&code, &[unaligned, too_long], &mut word), Err(Refusal::OutsideField { field: 1 }))?;
-    check_eq(code_box(&code, &[unaligned, None], &mut word), Err(Refusal::SpanNotTaken { field: 0 }))?;
-    check_eq(code_box(&code, &[None], &mut word), Err(Refusal::WrongFieldCount))?;
-    check_eq(code_values(&code, &[16, 4], &mut word), Err(Refusal::OutsideField { field: 0 }))?;
+    check_eq(
+        code_box(&code, &[unaligned, too_long], &mut word),
+        Err(Refusal::OutsideField { field: 1 }),
+    )?;
+    check_eq(
+        code_box(&code, &[unaligned, None], &mut word),
+        Err(Refusal::SpanNotTaken { field: 0 }),
+    )?;
+    check_eq(
+        code_box(&code, &[None], &mut word),
+        Err(Refusal::WrongFieldCount),
+    )?;
+    check_eq(
+        code_values(&code, &[16, 4], &mut word),
+        Err(Refusal::OutsideField { field: 0 }),
+    )?;
     check(word == before).note("a refused call leaves the word alone")
 }
 
@@ -78,5 +94,8 @@ fn code_too_large() -> Result<(), Fail> {
     let four = JoinedCode::new(JoinedCode::new(fence, fence), JoinedCode::new(fence, fence));
     let mut word = Word::blank();
     check_eq(code_values(&four, &[0, 0, 0, 0], &mut word), Ok(())).note("252 digits")?;
-    check_eq(code_values(&JoinedCode::new(four, fence), &[0, 0, 0, 0, 0], &mut word), Err(Refusal::CodeTooLarge))
+    check_eq(
+        code_values(&JoinedCode::new(four, fence), &[0, 0, 0, 0, 0], &mut word),
+        Err(Refusal::CodeTooLarge),
+    )
 }

@@ -145,7 +145,10 @@ impl Word {
     fn differences(&self, other: &Word) -> u64
         ensures { λ r. ⌜ Decides (eqb r 0) (digits (now (self .entry)) ≡ digits (now (other .entry))) ⌝ }
     {
-        self.differ(other, 0) | self.differ(other, 1) | self.differ(other, 2) | self.differ(other, 3)
+        self.differ(other, 0)
+            | self.differ(other, 1)
+            | self.differ(other, 2)
+            | self.differ(other, 3)
     }
 
     fn differ(&self, other: &Word, k: usize) -> u64

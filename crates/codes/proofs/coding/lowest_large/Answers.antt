@@ -8,7 +8,7 @@ pub returns-then-not-value-fits : need.returns-then-not-value-fits
 returns-then-not-value-fits g c =
     let fs = g .F·FieldCode .meaning (c .args .code .now) .fields in
     sym (c .loop-i .inv
-      ∙ first-stop valueOk fs (c .args .values .now) (c .loop-i .i) 0 (omega (arith, c .pre .1, c .loop-i-test .taken)) (c .loop-i-test .taken) (sym (c .if-not-value-fits .ensures tt)))
+    ∙ first-stop valueOk fs (c .args .values .now) (c .loop-i .i) 0 (omega (arith, c .pre .1, c .loop-i-test .taken)) (c .loop-i-test .taken) (sym (c .if-not-value-fits .ensures tt)))
 
 pub loop-i-again : need.loop-i-again
 loop-i-again g c =

@@ -9,7 +9,7 @@ pub returns-then-not-side-in-field : need.returns-then-not-side-in-field
 returns-then-not-side-in-field g c =
     let fs = g .F·FieldCode .meaning (c .args .code .now) .fields in
     sym (c .loop-i .inv
-      ∙ first-stop spanOk fs (c .args .sides .now) (c .loop-i .i) None (omega (arith, c .pre .1, c .loop-i-test .taken)) (c .loop-i-test .taken) (sym (c .if-not-side-in-field .ensures tt)))
+    ∙ first-stop spanOk fs (c .args .sides .now) (c .loop-i .i) None (omega (arith, c .pre .1, c .loop-i-test .taken)) (c .loop-i-test .taken) (sym (c .if-not-side-in-field .ensures tt)))
 
 pub loop-i-again : need.loop-i-again
 loop-i-again g c =

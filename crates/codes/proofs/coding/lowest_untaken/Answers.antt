@@ -9,7 +9,7 @@ pub returns-then-not-side-accepted : need.returns-then-not-side-accepted
 returns-then-not-side-accepted g c =
     let fs = g .F·FieldCode .meaning (c .args .code .now) .fields in
     sym (c .loop-i .inv
-      ∙ first-stop takenOk fs (c .args .sides .now) (c .loop-i .i) None (omega (arith, c .pre .1, c .loop-i-test .taken)) (c .loop-i-test .taken) (sym (c .if-not-side-accepted .ensures tt)))
+    ∙ first-stop takenOk fs (c .args .sides .now) (c .loop-i .i) None (omega (arith, c .pre .1, c .loop-i-test .taken)) (c .loop-i-test .taken) (sym (c .if-not-side-accepted .ensures tt)))
 
 pub loop-i-again : need.loop-i-again
 loop-i-again g c =

@@ -12,6 +12,7 @@ returns-then-field-n g c =
 pub returns-else-field-n : need.returns-else-field-n
 returns-else-field-n g c =
     let fs = g .P·FieldCode .meaning (c .args .first .now) .fields in let gs = g .Q·FieldCode .meaning (c .args .second .now) .fields in
-    let e = length-append fs gs in
-    (omega (arith, c .pre, c .fields-n .ensures),
-      field-right fs gs (c .args .field) (c .args .field - c .fields-n .result) (omega (arith, c .pre, c .fields-n .ensures)))
+    let e = length-append fs gs in (
+      omega (arith, c .pre, c .fields-n .ensures),
+      field-right fs gs (c .args .field) (c .args .field - c .fields-n .result) (omega (arith, c .pre, c .fields-n .ensures)),
+    )

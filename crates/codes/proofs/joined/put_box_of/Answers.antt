@@ -32,7 +32,7 @@ pub returns : need.returns
 returns g c =
     let m = g .P·FieldCode .meaning (c .args .first .now) in let n = g .Q·FieldCode .meaning (c .args .second .now) in
     both-written Taken m n (c .pre .small) (c .args .sides .now) (c .pre .good) (c .fields-n .result) (c .fields-n .ensures)
-      (m .boxWord) (n .boxWord) (g .P·FieldCode·met .lawful (c .args .first .now) .boxSize) (g .Q·FieldCode·met .lawful (c .args .second .now) .boxSize)
-      (digits (c .args .out .now)) (digits (c .put-box .last .out)) (digits (c .put-box-2 .last .out)) _ _ (c .args .at) (c .size-d .result)
-      (c .split-at .ensures .front) (c .split-at .ensures .back) (c .size-d .ensures)
-      (omega (arith, c .pre .within, digits-length (c .args .out .now))) (c .put-box .ensures) (c .put-box-2 .ensures)
+    (m .boxWord) (n .boxWord) (g .P·FieldCode·met .lawful (c .args .first .now) .boxSize) (g .Q·FieldCode·met .lawful (c .args .second .now) .boxSize)
+    (digits (c .args .out .now)) (digits (c .put-box .last .out)) (digits (c .put-box-2 .last .out)) _ _ (c .args .at) (c .size-d .result)
+    (c .split-at .ensures .front) (c .split-at .ensures .back) (c .size-d .ensures)
+    (omega (arith, c .pre .within, digits-length (c .args .out .now))) (c .put-box .ensures) (c .put-box-2 .ensures)

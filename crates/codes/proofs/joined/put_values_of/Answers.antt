@@ -32,7 +32,7 @@ pub returns : need.returns
 returns g c =
     let m = g .P·FieldCode .meaning (c .args .first .now) in let n = g .Q·FieldCode .meaning (c .args .second .now) in
     both-written (λ f (v : ℕ). v < 2 ^ f .width) m n (c .pre .small) (c .args .values .now) (c .pre .good) (c .fields-n .result) (c .fields-n .ensures)
-      (m .valueWord) (n .valueWord) (g .P·FieldCode·met .lawful (c .args .first .now) .valueSize) (g .Q·FieldCode·met .lawful (c .args .second .now) .valueSize)
-      (digits (c .args .out .now)) (digits (c .put-values .last .out)) (digits (c .put-values-2 .last .out)) _ _ (c .args .at) (c .size-d .result)
-      (c .split-at .ensures .front) (c .split-at .ensures .back) (c .size-d .ensures)
-      (omega (arith, c .pre .within, digits-length (c .args .out .now))) (c .put-values .ensures) (c .put-values-2 .ensures)
+    (m .valueWord) (n .valueWord) (g .P·FieldCode·met .lawful (c .args .first .now) .valueSize) (g .Q·FieldCode·met .lawful (c .args .second .now) .valueSize)
+    (digits (c .args .out .now)) (digits (c .put-values .last .out)) (digits (c .put-values-2 .last .out)) _ _ (c .args .at) (c .size-d .result)
+    (c .split-at .ensures .front) (c .split-at .ensures .back) (c .size-d .ensures)
+    (omega (arith, c .pre .within, digits-length (c .args .out .now))) (c .put-values .ensures) (c .put-values-2 .ensures)

@@ -4,7 +4,7 @@ use Rattle.rules.proofs.place.class_of.Needs as need
 
 pub returns : need.returns
 returns g c = record {
-    answer = c .find-class .ensures;
-    gives = λ rs h e. c .find-class .ensures
+  answer = c .find-class .ensures;
+  gives = λ rs h e. c .find-class .ensures
       ∙ class-gives (g .F·FieldCode .meaning (c .args .code .now)) (g .F·FieldCode·met .lawful (c .args .code .now)) rs (g .C·Chip .rows (c .args .chip .now)) h (c .args .values .now) e;
-  }
+}
