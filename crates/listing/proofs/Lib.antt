@@ -1,0 +1,3 @@
+mod Spans
+mod Numbers
+mod Insert
