@@ -159,14 +159,14 @@ def holds(span, field, value):
 
 # --- the three parts of the output -----------------------------------------------------------------------------
 
-def classify(text):
-    lines = text.split("\n")
-    if lines[-1] == "":
+def classify(data):
+    lines = data.split(b"\n")
+    if lines[-1] == b"":
         lines.pop()
     given, out = Input(), []
     for line, content in enumerate(lines, 1):
         try:
-            given.take(line, content)
+            given.take(line, content.decode("utf-8", errors="replace"))
         except Fault as fault:
             out.append("line %d: %s" % (line, fault))
     rows = 256 if given.rows is None else given.rows
@@ -197,4 +197,4 @@ def classify(text):
 
 
 if __name__ == "__main__":
-    sys.stdout.buffer.write(classify(sys.stdin.buffer.read().decode("utf-8")).encode("utf-8"))
+    sys.stdout.buffer.write(classify(sys.stdin.buffer.read()).encode("utf-8"))

@@ -99,14 +99,20 @@ impl Input {
     }
 }
 
-// Reads standard input to its end.
+// Reads standard input to its end, line by line. Bytes that are not UTF-8 are read as U+FFFD, so that they
+// spoil no more than their own line.
 pub fn gather<F: FieldCode>(rt: &LibcRuntime, code: &F) -> io::Result<Input> {
     let heap = rt.alloc();
     let mut input = Input::new(heap);
-    let mut line: u64 = 0;
-    for text in BufReader::new(rt.stdin()).lines(heap) {
-        line = line.saturating_add(1);
-        input.read(heap, code, line, text?.as_str())?;
+    let mut reader = BufReader::new(rt.stdin());
+    let mut bytes = Vec::new(heap);
+    for line in 1..u64::MAX {
+        bytes.clear();
+        if reader.read_until(b'\n', &mut bytes)? == 0 {
+            break;
+        }
+        let text = String::from_utf8_lossy(heap, bytes.as_slice())?;
+        input.read(heap, code, line, text.as_str())?;
     }
     Ok(input)
 }

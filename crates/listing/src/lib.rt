@@ -8,5 +8,3 @@ pub mod order;
 pub mod rule;
 pub mod side;
 pub mod telegram;
-#[cfg(test)]
-mod tests;

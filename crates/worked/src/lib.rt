@@ -1,7 +1,9 @@
-// Worked examples of words, codes, chips and rules, as tests. They stand in a crate of their own, since a crate
+// Worked examples of words, codes, chips, rules and rule lists, as tests. They stand in a crate of their own, since a crate
 // with tests is proved twice.
 #[cfg(test)]
 mod coding;
+#[cfg(test)]
+mod listed;
 #[cfg(test)]
 mod placing;
 #[cfg(test)]

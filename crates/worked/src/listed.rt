@@ -1,11 +1,11 @@
 // Numbers, sides and the list on examples. Lines of every kind are in the program's own input.
-use crate::list::RuleList;
-use crate::number::number;
-use crate::rule::Rule;
-use crate::side::span_between;
 use codes::span::Span;
 use codes::span::SpanDebug;
 use codes::span::SpanPartialEq;
+use listing::list::RuleList;
+use listing::number::number;
+use listing::rule::Rule;
+use listing::side::span_between;
 use std::alloc::Global;
 use std::test::*;
 
