@@ -3,7 +3,7 @@ use mathlib.Core.Path.{_≡_}
 use mathlib.Core.Bool.{Bool, cond}
 use mathlib.Core.List.{List, [], _∷_, _++_, map}
 use Prim.Native.Nat.{ℕ, _+_, _-_, _*_, _/_, _%_, _<_}
-use lib.ListN.{length, replicate}
+use lib.ListN.{length, replicate, set}
 use Rattle.std.specs.shelf.Lists.{All}
 use Rattle.std.specs.Options.{mapped}
 use Rattle.std.specs.declared.option.Option.{Option}
@@ -80,6 +80,22 @@ pub record Held (m : Meaning) (rs : List Rule) (rows : List Row) : Type 0 where
   pub plain : All (λ r. r .class < 65536) rs
   pub free : ℕ
   pub are : rows ≡ map (rowOf m) rs ++ replicate free emptyRow
+
+-- what placing a rule in a row promises, of the rows before and after it and of its answer
+pub record Placing (m : Meaning) (row : ℕ) (r : Rule) (before after : List Row) (answer : Result Unit Report) : Type 0 where
+  -- refused as the first line that fits says
+  pub answers : answer ≡ placeAnswer m before row (r .sides)
+  -- accepted, it changes that row and no other; refused, none
+  pub leaves : after ≡ placedRows (boxRefusal m (r .sides)) before (set before row (rowOf m r))
+  -- in the first row behind a list that the rows hold, an accepted rule makes them hold the list with it at the end
+  pub holds : (rs : List Rule) → Held m rs before → row ≡ length rs → answer ≡ Ok tt → Held m (rs ++ r ∷ []) after
+
+-- what classing a telegram promises, of the chip's rows and of its answer
+pub record Classing (m : Meaning) (rows : List Row) (vs : List ℕ) (answer : Result (Option (ℕ × ℕ)) Report) : Type 0 where
+  -- refused as the first line that fits says, or else the first matching row's
+  pub answers : answer ≡ classAnswer m rows vs
+  -- where the rows hold a list, an accepted telegram gets what the list gives
+  pub gives : (rs : List Rule) → Held m rs rows → valuesRefusal m vs ≡ None → answer ≡ Ok (listGives (m .fields) rs vs)
 
 -- rows that are all empty hold the empty list
 abbrev pub Empty-rows-law : Type 0

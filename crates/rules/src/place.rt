@@ -1,13 +1,9 @@
 // A rule is put into a row, and a telegram is classed by the first row that matches its key.
 ghost use mathlib.Core.Path.{_≡_};
-ghost use mathlib.Core.List.{List, [], _∷_, _++_};
-ghost use Prim.Native.Nat.{ℕ};
-ghost use lib.ListN.{length, set};
-ghost use Rattle.std.specs.declared.option.Option.the-variants.{Some, None};
-ghost use Rattle.std.specs.declared.result.Result.the-variants.{Ok, Err};
+ghost use lib.ListN.{set};
 ghost use Rattle.ternary.specs.Refusals.{answered};
-ghost use Rattle.codes.specs.Coding.{valuesRefusal, boxRefusal};
-ghost use Rattle.rules.specs.Rules.{Rule, rule, rowOf, listGives, placeAnswer, placedRows, classAnswer, Held, Empty-rows-law};
+ghost use Rattle.codes.specs.Coding.{boxRefusal};
+ghost use Rattle.rules.specs.Rules.{rule, rowOf, placeAnswer, placedRows, classAnswer, Placing, Classing, Empty-rows-law};
 use crate::row::key_word;
 use crate::row::rule_word;
 use crate::tag::number_and_class;
@@ -47,10 +43,8 @@ pub fn place_rule<C: Chip, F: FieldCode>(
     class: u16,
     sides: &[Option<Span>],
 ) -> Result<(), Refusal>
-    ensures answer { λ r. ⌜ answered r ≡ placeAnswer (F·FieldCode .meaning (now (code .entry))) (C·Chip .rows (now (chip .entry))) row (now (sides .entry)) ⌝ }
-    ensures after { λ _. ⌜ C·Chip .rows (now (chip .exit)) ≡ placedRows (boxRefusal (F·FieldCode .meaning (now (code .entry))) (now (sides .entry))) (C·Chip .rows (now (chip .entry))) (set (C·Chip .rows (now (chip .entry))) row (rowOf (F·FieldCode .meaning (now (code .entry))) (rule number class (now (sides .entry))))) ⌝ }
+    ensures placing { λ r. ⌜ Placing (F·FieldCode .meaning (now (code .entry))) row (rule number class (now (sides .entry))) (C·Chip .rows (now (chip .entry))) (C·Chip .rows (now (chip .exit))) (answered r) ⌝ }
     ensures lent { λ _. ⌜ C·Chip .loans (now (chip .exit)) ≡ C·Chip .loans (now (chip .entry)) ⌝ }
-    ensures holds { λ r. ⌜ ((rs : List Rule) → Held (F·FieldCode .meaning (now (code .entry))) rs (C·Chip .rows (now (chip .entry))) → row ≡ length rs → answered r ≡ Ok tt → Held (F·FieldCode .meaning (now (code .entry))) (rs ++ rule number class (now (sides .entry)) ∷ []) (C·Chip .rows (now (chip .exit)))) ⌝ }
 {
     put_rule(chip, code, row, number, class, sides)
 }
@@ -80,8 +74,7 @@ pub fn class_of<C: Chip, F: FieldCode>(
     code: &F,
     values: &[u16],
 ) -> Result<Option<(u16, u16)>, Refusal>
-    ensures answer { λ r. ⌜ answered r ≡ classAnswer (F·FieldCode .meaning (now (code .entry))) (C·Chip .rows (now (chip .entry))) (now (values .entry)) ⌝ }
-    ensures gives { λ r. ⌜ ((rs : List Rule) → Held (F·FieldCode .meaning (now (code .entry))) rs (C·Chip .rows (now (chip .entry))) → valuesRefusal (F·FieldCode .meaning (now (code .entry))) (now (values .entry)) ≡ None → answered r ≡ Ok (listGives (F·FieldCode .meaning (now (code .entry)) .fields) rs (now (values .entry)))) ⌝ }
+    ensures { λ r. ⌜ Classing (F·FieldCode .meaning (now (code .entry))) (C·Chip .rows (now (chip .entry))) (now (values .entry)) (answered r) ⌝ }
 {
     find_class(chip, code, values)
 }
