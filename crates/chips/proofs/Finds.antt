@@ -12,7 +12,7 @@ use Rattle.std.specs.declared.option.Option.{Option}
 use Rattle.std.specs.declared.option.Option.the-variants.{Some, None}
 use Rattle.ternary.specs.declared.digit.Digit.{Digit}
 use Rattle.ternary.specs.Words.{fits}
-use Rattle.chips.specs.Chip.{Row, hitTag, rowMatches, firstFrom, firstMatch, Lowest, Right, Find-law}
+use Rattle.chips.specs.Chip.{Row, hitTag, rowMatches, firstFrom, firstMatch, Right, Find-law}
 
 -- ---- a loop over the rows
 

@@ -1,7 +1,7 @@
 // The whole input: what its lines hold, and the faults of those that hold nothing.
 ghost use Prim.Native.Nat.{_≤_};
 ghost use Rattle.std.specs.Options.{valueOr};
-ghost use Rattle.reading.specs.Lines.{Held};
+ghost use Rattle.reading.specs.Lines.{FromLine};
 use codes::code::FieldCode;
 use listing::fault::Cause;
 use listing::fault::Fault;
@@ -57,7 +57,7 @@ impl Input {
 
     // Takes up what line number `line` holds.
     fn take(&mut self, line: u64, held: Line) -> Result<(), Cause>
-        requires { ⌜ Held line held ⌝ }
+        requires { ⌜ FromLine line held ⌝ }
     {
         match held {
             Line::Blank => Ok(()),

@@ -1,17 +1,17 @@
 -- The lowest field whose element does not pass, as a loop over the fields finds it, and what passing tells.
-use mathlib.Core.Path.{_≡_, refl, sym, ap, ap₂, subst, _∙_}
-use mathlib.Core.Bool.{Bool, true, false, _&&_, cond}
+use mathlib.Core.Path.{_≡_, refl, sym, ap, ap₂, _∙_}
+use mathlib.Core.Bool.{Bool, true, false, cond}
 use mathlib.Core.List.{List, [], _∷_}
-use mathlib.Core.Logic.{_⊎_, ⊎-elim}
+use mathlib.Core.Logic.{⊎-elim}
 use Prim.Native.Nat.{ℕ, zero, suc, _+_, _^_, _≤_, _<_}
 use native.Mathlib.Numerals.{add-one}
 use native.Mathlib.Omega.{arith}
-use lib.Dec.{ltb, leb, eqb}
+use lib.Dec.{leb, eqb}
 use lib.ListN.{length, getD, drop, drop-of-length-le}
 use lib.Seq.{drop-cons}
 use Rattle.std.specs.declared.option.Option.{Option}
 use Rattle.std.specs.declared.option.Option.the-variants.{Some, None}
-use Rattle.std.proofs.shelf.Tests.{ltb-true, leb-true, le-leb, eqb-true, eq-eqb, ne-eqb, and-parts, and-from, cond-true, cond-false, true≢false, cases-lt, cases-eq}
+use Rattle.std.proofs.shelf.Tests.{ltb-true, leb-true, eqb-true, and-parts, cond-true, cond-false, true≢false, cases-lt, cases-eq}
 use Rattle.ternary.specs.Refusals.{Report, report}
 use Rattle.codes.specs.declared.span.Span.{Span}
 use Rattle.codes.specs.Meaning.{Field, Meaning, Small, Per, Values, Taken, Boxes, noField}

@@ -1,9 +1,9 @@
 -- Offsets modulo 2^w: the subtraction that wraps and is masked, and spans that do not wrap.
-use mathlib.Core.Path.{_≡_, refl, sym, ap, ap₂, subst, _∙_}
-use mathlib.Core.Bool.{Bool, true, false, _&&_}
-use mathlib.Core.Logic.{_⊎_, inl, inr, ⊎-elim}
+use mathlib.Core.Path.{_≡_, sym, ap, subst, _∙_}
+use mathlib.Core.Bool.{true, _&&_}
+use mathlib.Core.Logic.{⊎-elim}
 use Prim.Native.Nat.{ℕ, _+_, _-_, _*_, _/_, _%_, _^_, _≤_, _<_}
-use native.Mathlib.Nat.{mod-eq-of-lt, add-mod-right, mod-lt, div-add-mod', add-mul, mul-le-mul-right, mul-add-mod-self-right}
+use native.Mathlib.Nat.{mod-eq-of-lt, add-mod-right, mod-lt, div-add-mod', add-mul, mul-add-mod-self-right}
 use native.Mathlib.Omega.{arith}
 use lib.Dec.{ltb, leb}
 use lib.Bits.{bitAnd, and-mask}
@@ -11,7 +11,7 @@ use lib.Pow.{pow-pos, pow-add, mod-mod-pow}
 use Rattle.std.specs.Orderings.{Decides}
 use Rattle.std.specs.declared.option.Option.the-variants.{Some}
 use Rattle.std.proofs.shelf.Bits.{div-below}
-use Rattle.std.proofs.shelf.Tests.{cases-lt, ltb-true, lt-ltb, le-ltb, leb-true, and-parts}
+use Rattle.std.proofs.shelf.Tests.{cases-lt, ltb-true, lt-ltb, leb-true, and-parts}
 use Rattle.codes.specs.declared.span.Span.{Span}
 use Rattle.codes.specs.Spans.{inField}
 
@@ -59,9 +59,6 @@ module _ (w : ℕ) (h : w ≤ 16) where
   -- subtraction that wraps at 16 bits, masked to w bits, is subtraction modulo 2^w
   pub masked-offset : (v s : ℕ) → s < 65536 → bitAnd ((v + (65536 - s)) % 65536) (2 ^ w - 1) ≡ (v + (2 ^ w - s % 2 ^ w)) % 2 ^ w
   masked-offset v s hs =
-      let P = 2 ^ w in
-      let B = 2 ^ (16 - w) in
-      let q = s / 2 ^ w in
       let pos : 0 < 2 ^ w = pow-pos w in
       let low : s % 2 ^ w < 2 ^ w = mod-lt s pos in
       let parts : s / 2 ^ w * 2 ^ w + s % 2 ^ w ≡ s = div-add-mod' s (2 ^ w) in

@@ -2,7 +2,7 @@
 ghost use mathlib.Core.Path.{_≡_};
 ghost use Rattle.std.specs.Results.{Cases};
 ghost use Rattle.std.specs.Vec.{made};
-ghost use Rattle.reading.specs.Lines.{Held};
+ghost use Rattle.reading.specs.Lines.{FromLine};
 use codes::code::FieldCode;
 use codes::span::Span;
 use listing::fault::Cause;
@@ -34,7 +34,7 @@ pub fn parse_line<F: FieldCode>(
     line: u64,
     text: &str,
 ) -> Result<Line, Fault>
-    ensures { λ r. ⌜ Cases r (Held line) (λ fault. fault .line ≡ line) ⌝ }
+    ensures { λ r. ⌜ Cases r (FromLine line) (λ fault. fault .line ≡ line) ⌝ }
 {
     match read_words(heap, code, line, before_comment(text).split_whitespace()) {
         Ok(held) => Ok(held),
@@ -48,7 +48,7 @@ fn read_words<F: FieldCode>(
     line: u64,
     mut words: SplitWhitespace<'_>,
 ) -> Result<Line, Cause>
-    ensures { λ r. ⌜ made r (Held line) ⌝ }
+    ensures { λ r. ⌜ made r (FromLine line) ⌝ }
 {
     match words.next() {
         None => Ok(Line::Blank),
@@ -68,7 +68,7 @@ fn before_comment(text: &str) -> &str {
 }
 
 fn read_rows(line: u64, mut words: SplitWhitespace<'_>) -> Result<Line, Cause>
-    ensures { λ r. ⌜ made r (Held line) ⌝ }
+    ensures { λ r. ⌜ made r (FromLine line) ⌝ }
 {
     let (Some(word), None) = (words.next(), words.next()) else {
         return Err(Cause::BadRows);
@@ -91,7 +91,7 @@ fn read_rule<F: FieldCode>(
     line: u64,
     mut words: SplitWhitespace<'_>,
 ) -> Result<Line, Cause>
-    ensures { λ r. ⌜ made r (Held line) ⌝ }
+    ensures { λ r. ⌜ made r (FromLine line) ⌝ }
 {
     let number = next_number(heap, &mut words)?;
     let rank = next_number(heap, &mut words)?;
@@ -107,7 +107,7 @@ fn read_rule<F: FieldCode>(
 }
 
 fn read_telegram(heap: Global, line: u64, words: SplitWhitespace<'_>) -> Result<Line, Cause>
-    ensures { λ r. ⌜ made r (Held line) ⌝ }
+    ensures { λ r. ⌜ made r (FromLine line) ⌝ }
 {
     let mut values = Vec::new(heap);
     for word in words {

@@ -1,10 +1,10 @@
 -- The digits of a rule's row and of a telegram's key, and when they match.
 use mathlib.Core.Path.{_≡_, refl, sym, ap, ap₂, _∙_}
-use mathlib.Core.Bool.{Bool, true, false, _&&_, and-true}
+use mathlib.Core.Bool.{true, _&&_, and-true}
 use mathlib.Core.List.{List, [], _∷_, _++_}
-use Prim.Native.Nat.{ℕ, zero, suc, _+_, _-_, _≤_}
+use Prim.Native.Nat.{ℕ, zero, suc, _+_, _-_}
 use native.Mathlib.Omega.{arith}
-use lib.ListN.{length, set, take, drop, replicate}
+use lib.ListN.{length, set, drop, replicate}
 use lib.Seq.{paste, take-all}
 use Rattle.std.proofs.shelf.Lists.{drop-replicate}
 use Rattle.ternary.specs.declared.digit.Digit.{Digit}

@@ -1,6 +1,6 @@
 -- What a rule's row and a telegram's key hold, and what a rule list gives a telegram.
 use mathlib.Core.Path.{_≡_}
-use mathlib.Core.Bool.{Bool, cond}
+use mathlib.Core.Bool.{cond}
 use mathlib.Core.List.{List, [], _∷_, _++_, map}
 use Prim.Native.Nat.{ℕ, _+_, _-_, _*_, _/_, _%_, _<_}
 use lib.ListN.{length, replicate, set}

@@ -1,21 +1,19 @@
 -- The fence code keeps the laws.
-use mathlib.Core.Path.{_≡_, refl, sym, ap, ap₂, subst, _∙_}
+use mathlib.Core.Path.{_≡_, refl, sym, _∙_}
 use mathlib.Core.Bool.{Bool, true, false, _&&_, cond}
-use mathlib.Core.List.{List, [], _∷_, map}
-use mathlib.Core.Logic.{_⊎_, inl, inr, ⊎-elim}
-use Prim.Native.Nat.{ℕ, zero, suc, _+_, _-_, _%_, _^_, _≤_, _<_, min}
+use mathlib.Core.List.{List, [], _∷_}
+use mathlib.Core.Logic.{⊎-elim}
+use Prim.Native.Nat.{ℕ, _+_, _-_, _^_, _≤_, _<_, min}
 use native.Mathlib.Omega.{arith}
-use lib.Dec.{ltb, leb}
-use lib.Pow.{pow-pos}
+use lib.Dec.{leb}
 use lib.ListN.{length, getD}
 use Rattle.std.specs.Iters.{counting}
-use Rattle.std.specs.Orderings.{Decides}
 use Rattle.std.specs.shelf.Lists.{All}
 use Rattle.std.specs.declared.option.Option.{Option}
 use Rattle.std.specs.declared.option.Option.the-variants.{Some, None}
 use Rattle.std.proofs.shelf.Counted.{getD-map-counting, length-map-counting}
-use Rattle.std.proofs.shelf.Tests.{cases-lt, le-leb, lt-leb, leb-true, leb-false, ltb-true, lt-ltb, le-ltb, cases-bool, true≢false}
-use Rattle.std.proofs.shelf.Ways.{tells, same-from-decides}
+use Rattle.std.proofs.shelf.Tests.{cases-lt, le-leb, lt-leb, leb-true, leb-false}
+use Rattle.std.proofs.shelf.Ways.{same-from-decides}
 use Rattle.ternary.specs.declared.digit.Digit.{Digit}
 use Rattle.ternary.specs.declared.digit.Digit.the-variants.{Zero, One, Any}
 use Rattle.ternary.specs.Words.{agree, fits}

@@ -1,8 +1,8 @@
 -- The plain code keeps the laws.
-use mathlib.Core.Path.{_≡_, refl, sym, ap, ap₂, subst, _∙_}
-use mathlib.Core.Bool.{Bool, true, false, not, _&&_, _||_, cond}
-use mathlib.Core.List.{List, [], _∷_, map}
-use mathlib.Core.Logic.{_⊎_, inl, inr, ⊎-elim}
+use mathlib.Core.Path.{_≡_, refl, sym, ap, subst, _∙_}
+use mathlib.Core.Bool.{Bool, true, false, not, _&&_}
+use mathlib.Core.List.{List, [], _∷_}
+use mathlib.Core.Logic.{⊎-elim}
 use Prim.Native.Nat.{ℕ, zero, suc, _+_, _-_, _*_, _/_, _%_, _^_, _≤_, _<_, min}
 use native.Mathlib.Nat.{pow-suc, add-mul, mul-le-mul-right, div-add-mod', mod-lt, mod-one}
 use native.Mathlib.Omega.{arith}
@@ -16,12 +16,11 @@ use Rattle.std.specs.shelf.Lists.{All}
 use Rattle.std.specs.declared.option.Option.{Option}
 use Rattle.std.specs.declared.option.Option.the-variants.{Some, None}
 use Rattle.std.proofs.shelf.Bits.{div-below, pow-below, shr-below}
-use lib.Bits.{bitAnd, and-mask}
 use Rattle.std.proofs.shelf.Counted.{length-map-counting, getD-map-counting}
-use Rattle.std.proofs.shelf.Tests.{eqb-true, eq-eqb, and-parts, and-from, or-cases, or-left, or-right, cases-lt, cases-eq, le-ltb, lt-ltb, ltb-true, true≢false, not-from-false, ne-eqb, leb-true, le-leb}
-use Rattle.std.proofs.shelf.Ways.{tells, same-from-decides}
+use Rattle.std.proofs.shelf.Tests.{eqb-true, eq-eqb, and-parts, and-from, or-cases, or-left, or-right, cases-lt, cases-eq, le-ltb, lt-ltb, true≢false, leb-true, le-leb}
+use Rattle.std.proofs.shelf.Ways.{same-from-decides}
 use Rattle.ternary.specs.declared.digit.Digit.{Digit}
-use Rattle.ternary.specs.declared.digit.Digit.the-variants.{Zero, One, Any}
+use Rattle.ternary.specs.declared.digit.Digit.the-variants.{Any}
 use Rattle.ternary.specs.Bit.{bit}
 use Rattle.ternary.specs.Words.{digitOf, agree, fits}
 use Rattle.ternary.proofs.Digits.{agree-any}
@@ -29,7 +28,7 @@ use Rattle.ternary.proofs.Bits.{bits-same}
 use Rattle.codes.specs.declared.span.Span.{Span}
 use Rattle.codes.specs.Spans.{holds}
 use Rattle.codes.specs.Meaning.{Lawful, Small, Values, Boxes, inBox, sharp}
-use Rattle.simple.specs.Plain.{power, plainDigit, plainSide, highest, plainField, plain}
+use Rattle.simple.specs.Plain.{power, plainSide, highest, plainField, plain}
 use Rattle.codes.proofs.Maps.{fits-map, all-map}
 use Rattle.codes.proofs.Offsets.{in-field-parts, straight}
 

@@ -7,10 +7,9 @@ use native.Mathlib.Omega.{arith}
 use lib.Dec.{eqb, eqb·suc-suc, eqb·zero-suc, eqb·suc-zero}
 use lib.Bits.{bitAnd, bitOr, bitXor, and-step, and-shr, or-shr, xor-shr, or-add-and, xor-add-and, and-le-l, and-le-r, and-mask, xor-assoc, xor-self, xor-zero-r, xor-zero-l}
 use lib.Pow.{shr-shr}
-use Rattle.std.proofs.shelf.Tests.{eq-eqb, ne-eqb}
+use Rattle.std.proofs.shelf.Tests.{ne-eqb}
 use Rattle.std.proofs.shelf.Ways.{tells}
 use Rattle.ternary.specs.Bit.{bit}
-use lib.ListN.{set}
 
 abbrev pub differs : Bool → Bool → Bool
 differs false b = b

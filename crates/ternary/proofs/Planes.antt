@@ -6,7 +6,6 @@ use native.Mathlib.Omega.{arith}
 use lib.Dec.{eqb}
 use lib.Bits.{bitAnd, bitOr}
 use Rattle.std.proofs.shelf.Tests.{eq-eqb, eqb-true}
-use Rattle.std.proofs.shelf.Ways.{tells}
 use Rattle.ternary.specs.Bit.{bit, planeBit}
 use mathlib.Core.List.{List, [], _∷_, map}
 use lib.ListN.{length, getD, replicate}

@@ -1,10 +1,9 @@
 -- Refusals that tell the same are one refusal.
-use mathlib.Core.Path.{_≡_, refl, ap}
+use mathlib.Core.Path.{refl, ap}
 use Prim.Native.Nat.{ℕ}
 use native.Mathlib.Omega.{arith}
-use Rattle.ternary.specs.declared.refusal.Refusal.{Refusal}
 use Rattle.ternary.specs.declared.refusal.Refusal.the-variants.{NoSuchRow, BadSetting, CodeTooLarge, WrongFieldCount, OutsideField, SpanNotTaken}
-use Rattle.ternary.specs.Refusals.{Report, report, told, Refusals-law}
+use Rattle.ternary.specs.Refusals.{Report, Refusals-law}
 
 pub refusals-law : Refusals-law
 refusals-law (NoSuchRow i) (NoSuchRow j) e = ap (λ (n : ℕ). NoSuchRow n) (ap (λ (r : Report). r .place) e)

@@ -1,5 +1,4 @@
 use mathlib.Core.Path.{ap, _∙_}
-use Prim.Native.Nat.{ℕ}
 use lib.Seq.{paste}
 use Rattle.codes.proofs.Checks.{values-good}
 use Rattle.rules.proofs.RowWords.{laid}

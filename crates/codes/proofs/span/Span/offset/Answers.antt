@@ -1,5 +1,5 @@
 use mathlib.Core.Path.{ap, _∙_}
-use Prim.Native.Nat.{ℕ, _+_, _-_, _%_, _<_}
+use Prim.Native.Nat.{ℕ, _+_, _-_, _%_}
 use lib.Bits.{bitAnd}
 use native.Mathlib.Omega.{arith}
 use Rattle.codes.proofs.Offsets.{masked-offset}
