@@ -7,11 +7,8 @@ It is brute force. A telegram's answer is the first rule in order whose box hold
 import re
 import sys
 
-# (width, kind) of each field: port, hops, slot
-FIELDS = ((16, "plain"), (4, "fence"), (11, "short"))
-
-# the longest span that the short code of the slot takes, and its base-2 logarithm
-LONGEST, LOGARITHM = 64, 6
+# (width, kind) of each field: port, then hops
+FIELDS = ((16, "plain"), (4, "fence"))
 
 # Unicode's White_Space, which separates words
 WHITE = re.compile("[\t-\r \x85\xa0\u1680\u2000-\u200a\u2028\u2029\u202f\u205f\u3000]+")
@@ -118,9 +115,7 @@ def accepts(field, low, length):
     width, kind = FIELDS[field]
     if kind == "plain":
         return length in [2 ** j for j in range(width + 1)] and low % length == 0
-    if kind == "fence":
-        return low + length <= 2 ** width
-    return length <= LONGEST
+    return low + length <= 2 ** width
 
 
 def box_refusal(sides):
@@ -145,23 +140,6 @@ def values_refusal(values):
     return None
 
 
-def short_value(width, value):
-    """The short code's digits of a value: the leading ones, and one for each layer."""
-    leading = format(value ^ value // 2, "0%db" % width)[:width - LOGARITHM + 1]
-    layers = [(value - i) // LONGEST % 2 for i in range(1, LONGEST) if i != LONGEST // 2]
-    return leading, "".join(str(digit) for digit in layers)
-
-
-def short_longest(width, low):
-    """The short code's digits of the longest span from low on."""
-    values = [(low + i) % 2 ** width for i in range(LONGEST)]
-    columns = zip(*[short_value(width, value)[0] for value in values])
-    leading = "".join(column[0] if len(set(column)) == 1 else "*" for column in columns)
-    layers = [i for i in range(1, LONGEST) if i != LONGEST // 2]
-    own = zip(layers, short_value(width, low)[1])
-    return leading + "".join(digit if i == low % LONGEST else "*" for i, digit in own)
-
-
 def digits_of(field, span):
     width, kind = FIELDS[field]
     if kind == "plain":
@@ -169,17 +147,10 @@ def digits_of(field, span):
             return "*" * width
         stars = span[1].bit_length() - 1
         return format(span[0], "0%db" % width)[:width - stars] + "*" * stars
-    if kind == "fence":
-        if span is None:
-            return "*" * (2 ** width - 1)
-        low, high = span[0], span[0] + span[1] - 1
-        return "".join("1" if i <= low else "0" if i > high else "*" for i in range(1, 2 ** width))
     if span is None:
-        return "*" * (width - LOGARITHM + LONGEST - 1)
-    # a span is where two of the longest meet: the one that starts with it and the one that ends with it
-    starts = short_longest(width, span[0])
-    ends = short_longest(width, (span[0] + span[1] - LONGEST) % 2 ** width)
-    return "".join(b if a == "*" else a for a, b in zip(starts, ends))
+        return "*" * (2 ** width - 1)
+    low, high = span[0], span[0] + span[1] - 1
+    return "".join("1" if i <= low else "0" if i > high else "*" for i in range(1, 2 ** width))
 
 
 def holds(span, field, value):

@@ -30,18 +30,6 @@ def value(width):
     return pick.choice([0, 1, top, top - 1, pick.randint(0, top), pick.randint(0, top), min(top, 2 ** pick.randint(0, width))])
 
 
-def slot():
-    """A value of the slot, often next to a full hour, so that telegrams fall on the ends of spans."""
-    return pick.choice([value(11), 2047 - pick.randint(0, 63), (60 * pick.randint(0, 34) + pick.randint(-1, 1)) % 2048])
-
-
-def slot_span():
-    """A span that the short code takes: of every length up to 64, past the highest value too. Some are longer."""
-    low = slot()
-    length = pick.choice([1, 60, 60, 63, 64] + [pick.randint(1, 64) for _ in range(6)] + [pick.randint(65, 130)])
-    return pick.choice(["%d..%d" % (low, (low + length - 1) % 2048), "%d+%d" % (low, length)])
-
-
 def side(width):
     top = 2 ** width - 1
     kind = pick.randint(0, 9)
@@ -54,8 +42,6 @@ def side(width):
             j = pick.randint(0, 16)
             low = pick.randint(0, 2 ** (16 - j) - 1) << j
             return pick.choice(["%d..%d" % (low, low + 2 ** j - 1), "%d+%d" % (low, 2 ** j)])
-        if width == 11:
-            return slot_span()
         low = pick.randint(0, top)
         high = pick.randint(low, top)
         return pick.choice(["%d..%d" % (low, high), "%d+%d" % (low, high - low + 1)])
@@ -76,24 +62,24 @@ def maybe(word):
 
 
 def rule():
-    words = ["rule", maybe(str(pick.randint(0, 40))), maybe(str(pick.randint(0, 4))), maybe(number()), side(16), side(4), side(11)]
+    words = ["rule", maybe(str(pick.randint(0, 40))), maybe(str(pick.randint(0, 4))), maybe(number()), side(16), side(4)]
     change = pick.randint(0, 29)
     if change == 0:
-        words = words[:pick.randint(1, 6)]
+        words = words[:pick.randint(1, 5)]
     elif change == 1:
         words += [side(16) for _ in range(pick.randint(1, 3))]
     return words
 
 
 def telegram():
-    words = ["telegram", maybe(str(value(16))), maybe(str(value(4))), maybe(str(slot()))]
+    words = ["telegram", maybe(str(value(16))), maybe(str(value(4)))]
     change = pick.randint(0, 29)
     if change == 0:
-        words = words[:pick.randint(1, 3)]
+        words = words[:pick.randint(1, 2)]
     elif change == 1:
         words.append(number())
     elif change == 2:
-        words[pick.randint(2, 3)] = number()
+        words[2] = number()
     return words
 
 
@@ -110,7 +96,7 @@ def line():
     else:
         words = []
     text = pick.choice(["", "", "", " ", "\t"]) + pick.choice([" ", " ", "  ", "\t", " \t "]).join(words)
-    return text + pick.choice(["", "", "", " ", "\t", "\r", " # a comment", "# rule 1 1 1 any any any", "#"])
+    return text + pick.choice(["", "", "", " ", "\t", "\r", " # a comment", "# rule 1 1 1 any any", "#"])
 
 
 for i in range(count):

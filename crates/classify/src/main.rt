@@ -1,6 +1,8 @@
 // Tries a rule list: reads rules and telegrams, fills a row chip with the rules, and prints the faults, the rows and
 // each telegram's class. docs/classify.md has the input and the output.
-ghost use Rattle.std.specs.Prelude.{◌≡◌, ◌^◌, length, replicate};
+#![tactic(auto)]
+
+ghost use Rattle.std.specs.Prelude.{◌≡◌, length, replicate};
 ghost use Rattle.codes.specs.Spans.{bits_of};
 ghost use Rattle.chips.specs.declared.slot.Slot.TheVariants.{Empty};
 
@@ -8,7 +10,6 @@ use chips::rows::RowChip;
 use chips::slot::Slot;
 use codes::code::FieldCode;
 use codes::joined::JoinedCode;
-use short::code::ShortCode;
 use simple::fence::FenceCode;
 use simple::plain::PlainCode;
 use std::io;
@@ -19,21 +20,9 @@ mod steps;
 use gather::{Input, gather};
 use steps::{class_telegrams, place_rules, print_faults};
 
-// The minute of the day, short at 11 bits with spans of up to 64 minutes.
-fn slot_code() -> ShortCode
-    ensures { (bits_of result.width ≡ 11) × (2 ^ result.log ≡ 64) }
-{
-    match ShortCode::new(11, 64) {
-        Ok(slot) => slot,
-        Err(_) => unreachable(),
-    }
-}
-
-// The fields of a telegram: port, plain at 16 bits, then hops, fenced at 4, then slot.
-fn port_hops_slot() -> JoinedCode<PlainCode, JoinedCode<FenceCode, ShortCode>>
-    ensures port { bits_of result.first.width ≡ 16 }
-    ensures hops { bits_of result.second.first.width ≡ 4 }
-    ensures slot { (bits_of result.second.second.width ≡ 11) × (2 ^ result.second.second.log ≡ 64) }
+// The fields of a telegram: port, plain at 16 bits, then hops, fenced at 4.
+fn port_and_hops() -> JoinedCode<PlainCode, FenceCode>
+    ensures { (bits_of result.first.width ≡ 16) × (bits_of result.second.width ≡ 4) }
 {
     let port = match PlainCode::new(16) {
         Ok(port) => port,
@@ -43,7 +32,7 @@ fn port_hops_slot() -> JoinedCode<PlainCode, JoinedCode<FenceCode, ShortCode>>
         Ok(hops) => hops,
         Err(_) => unreachable(),
     };
-    JoinedCode::new(port, JoinedCode::new(hops, slot_code()))
+    JoinedCode::new(port, hops)
 }
 
 // Fills a chip over empty memory with the rules, and puts the telegrams to it.
@@ -61,7 +50,7 @@ fn fill_and_ask<F: FieldCode>(
 }
 
 fn run(rt: &HostRuntime) -> io::Result<()> {
-    let code = port_hops_slot();
+    let code = port_and_hops();
     let input = gather(rt, &code)?;
     print_faults(rt, input.faults())?;
     let mut memory = [Slot::Empty; 256];

@@ -3,6 +3,8 @@
 //
 // `code` is the interface with its law, `joined` makes one code of two, and `coding` has the
 // calls for users, which refuse what does not fit. docs/codes.md has the rules.
+#![tactic(auto)]
+
 pub mod code;
 pub mod coding;
 pub mod joined;

@@ -5,6 +5,8 @@
 // A word has w - k + 1 leading digits, of the value's Gray code, and h - 2 layer digits (h = 2^k). The leading digits name
 // two neighbouring blocks of h values, the layer digit that is kept cuts them where the span begins. docs/short-code.md
 // has the rules, a drawing and the reason why it works.
+#![tactic(auto)]
+
 pub mod code;
 mod column;
 pub mod laws;

@@ -3,6 +3,8 @@
 //
 // The gate compares what a program writes, and no two runs take the same time. So it runs this program without an
 // argument, which then only says how it is called.
+#![tactic(auto)]
+
 mod numbers;
 mod rounds;
 

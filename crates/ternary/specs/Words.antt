@@ -1,5 +1,5 @@
 -- A word as the list of its 256 digits, when two words match, and how they join.
-use Rattle.std.specs.Prelude.{◌≡◌, ℕ, Bool, true, false, ◌&&◌, List, [], ◌∷◌, map}
+use Rattle.std.specs.Prelude.{◌≡◌, ℕ, Bool, true, false, ◌&&◌, Decides, List, [], ◌∷◌, map}
 use Rattle.std.specs.List.{range_with_len}
 use Rattle.ternary.specs.declared.digit.Digit.{Digit}
 use Rattle.ternary.specs.declared.digit.Digit.TheVariants.{Zero, One, Any}
@@ -47,6 +47,28 @@ abbrev pub joining : List Digit → List Digit → List Digit
 joining [] ys = []
 joining (x ∷ xs) [] = x ∷ xs
 joining (x ∷ xs) (y ∷ ys) = over x y ∷ joining xs ys
+
+-- two digits are one and the same
+abbrev pub same_digit : Digit → Digit → Bool
+same_digit Zero Zero = true
+same_digit One One = true
+same_digit Any Any = true
+same_digit d e = false
+
+-- two lists of digits have the same length, and the same digit at each place
+abbrev pub same_digits : List Digit → List Digit → Bool
+same_digits [] [] = true
+same_digits [] (y ∷ ys) = false
+same_digits (x ∷ xs) [] = false
+same_digits (x ∷ xs) (y ∷ ys) = same_digit x y && same_digits xs ys
+
+-- what `==` answers: the words have the same digits
+abbrev pub same_word : Word → Word → Bool
+same_word a b = same_digits (digits a) (digits b)
+
+-- `==` is true exactly where the digits are equal
+abbrev pub SameLaw : Type 0
+SameLaw = (a b : Word) → Decides (same_word a b) (digits a ≡ digits b)
 
 -- words with the same digits are one word
 abbrev pub WordsLaw : Type 0

@@ -2,6 +2,8 @@
 //
 // A word is what one row of a ternary memory holds and what is put to it as a key.
 // docs/words.md and docs/refusals.md have the rules.
+#![tactic(auto)]
+
 pub mod digit;
 pub mod refusal;
 pub mod word;

@@ -1,5 +1,7 @@
 // Worked examples of words, codes, chips, rules and rule lists, as tests. They stand in a crate of their own, since a crate
 // with tests is proved twice.
+#![tactic(auto)]
+
 #[cfg(test)]
 mod coding;
 #[cfg(test)]
@@ -9,6 +11,6 @@ mod placing;
 #[cfg(test)]
 mod rowchip;
 #[cfg(test)]
-mod short;
+mod short_code;
 #[cfg(test)]
 mod words;

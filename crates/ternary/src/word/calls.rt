@@ -1,11 +1,10 @@
 // What a word answers, in its digits. The public calls are thin; the private ones below them work on limbs.
 ghost use Rattle.std.specs.Prelude.{◌≡◌, ◌<◌, Bool, replicate, Decides, ◌==◌, slice_index_or, slice_set};
 ghost use Rattle.ternary.specs.declared.digit.Digit.{Digit};
-ghost use Rattle.ternary.specs.Words.{digits, digit_of, fits, joining, WordsLaw};
+ghost use Rattle.ternary.specs.Words.{digits, digit_of, fits, joining, same_word, WordsLaw, SameLaw};
+ghost use Rattle.ternary.specs.Sameness.{same_word_equiv};
+ghost use Rattle.std.specs.Cmp.{partial_equiv_from_equiv};
 ghost use Rattle.ternary.specs.Limbs.{clashes, apart, care_at, ones_at};
-ghost use Rattle.std.specs.Cmp.Rules.{comparing};
-ghost use Rattle.std.proofs.Common.{rules, arith};
-ghost use Rattle.std.specs.Cmp as Keys;
 
 use crate::digit::Digit;
 use crate::word::Word;
@@ -142,7 +141,8 @@ impl Word {
 
     // The differences of all limbs or-ed: 0 exactly when the words are equal.
     fn differences(&self, other: &Word) -> u64
-        ensures { Decides (result == 0) (digits self.now ≡ digits other.now) }
+        ensures decides { Decides (result == 0) (digits self.now ≡ digits other.now) }
+        ensures same { (result == 0) ≡ same_word self.now other.now }
     {
         self.differ(other, 0)
             | self.differ(other, 1)
@@ -159,9 +159,9 @@ impl Word {
 }
 
 impl PartialEq for Word {
-    ghost equals = { λ a b r. Decides r (digits a ≡ digits b) };
+    ghost eq = { same_word };
 
-    ghost laws = { Keys.partial_equiv_from_equiv (first_of (Prim.search (comparing, rules), Prim.grind (arith, Self.row.coded.inj))) };
+    ghost laws = { partial_equiv_from_equiv same_word_equiv };
 
     fn eq(&self, other: &Word) -> bool {
         self.differences(other) == 0
@@ -169,12 +169,13 @@ impl PartialEq for Word {
 }
 
 impl Eq for Word {
-    ghost laws = { first_of (Prim.search (comparing, rules), Prim.grind (arith, Self.row.coded.inj)) };
+    ghost laws = { same_word_equiv };
 }
 
 // Words with the same digits are one word, so `==` of words is equality of meanings.
 pub fn words_law() -> u8
-    ensures { WordsLaw }
+    ensures words { WordsLaw }
+    ensures same { SameLaw }
 {
     0
 }

@@ -1,7 +1,7 @@
 use Rattle.std.proofs.Common.{length, arith}
 use Rattle.classify.proofs.Placing.{filled_none, filled_all, filled_done, filled_same}
 use Rattle.classify.proofs.steps.place_rules.Goals as goal
-use Rattle.classify.proofs.steps.place_rules.Goals.{in-Ok+in-ok-println, in-Err+in-ok-println-2}
+use Rattle.classify.proofs.steps.place_rules.Goals.{in-Ok+in_ok-println-in-Ok, in-Err+in_ok-println-in-Err}
 
 pub loop-rule-init : goal.loop-rule-init
 loop-rule-init g c = filled_none (g.F.FieldCode.meaning c.args.code.now) c.args.rules.now (g.C.Chip.rows c.args.chip.now)
@@ -17,10 +17,10 @@ loop-rule-preserved g c =
     let new = g.C.Chip.rows c.place.new.chip in
     let row = c.loop-rule.row in
     elim c.match-place.branch [
-      | in-Ok+in-ok-println w ↦
+      | in-Ok+in_ok-println-in-Ok w ↦
           filled_done m (length start) start rs i r c.loop-rule-test.true c.rule-item.is old new row c.match-place.row c.loop-rule.invariant w.in-Ok.word
-          w.in-Ok.ensures (λ small. omega (arith, w.row-is, w.saturating-add-row.ensures))
-      | in-Err+in-ok-println-2 w ↦
+          w.in-Ok.ensures (λ small. omega (arith, w.row-is, w.saturating_add-row.ensures))
+      | in-Err+in_ok-println-in-Err w ↦
           filled_same m (length start) start rs i r c.loop-rule-test.true c.rule-item.is old new row c.match-place.row c.loop-rule.invariant w.in-Err.refusal
           w.in-Err.ensures w.row-is
     ]

@@ -14,7 +14,7 @@ loop-i-preserved g c =
     let at = c.args.at in let i = c.loop-i.i in
     let room = digits_length c.args.out.now in
     let long = g.met.R.DigitRun.long c.args.run.now in
-    c.put-digit.ensures ∙ ap (λ x. set x (at + i) (get_or xs i Any)) c.loop-i.invariant
+    c.put_digit.ensures ∙ ap (λ x. set x (at + i) (get_or xs i Any)) c.loop-i.invariant
     ∙ paste-suc ds at xs i Any (omega arith) (omega arith) ∙ ap (paste ds at xs) (sym (add-one i))
 
 pub returns : goal.returns

@@ -9,10 +9,10 @@ returns g c =
     let r = rule c.args.number c.args.class c.args.sides.now in
     record {
       placing = record {
-        answers = c.put-rule.ensures.answer;
-        leaves = c.put-rule.ensures.after;
-        holds = λ rs h e a. placed_held m rs r (g.C.Chip.rows c.args.chip.now) (g.C.Chip.rows c.put-rule.new.chip) c.args.row h e
-            (sym c.put-rule.ensures.answer ∙ a) (omega arith) c.put-rule.ensures.after;
+        answers = c.put_rule.ensures.answer;
+        leaves = c.put_rule.ensures.after;
+        holds = λ rs h e a. placed_held m rs r (g.C.Chip.rows c.args.chip.now) (g.C.Chip.rows c.put_rule.new.chip) c.args.row h e
+            (sym c.put_rule.ensures.answer ∙ a) (omega arith) c.put_rule.ensures.after;
       };
-      lent = c.put-rule.ensures.lent;
+      lent = c.put_rule.ensures.lent;
     }

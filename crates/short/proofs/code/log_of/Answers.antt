@@ -17,7 +17,7 @@ returns-then-log-longest c j s =
     let k = c.ilog2-log.result in
     let known = c.ilog2-log.ensures in
     let one : 1 * 2 ^ k % 65536 ≡ 2 ^ k = one_shl k 16 known.bound in
-    let same : 2 ^ j ≡ 2 ^ k = ap (λ (n : ℕ). 2 ^ n) (exponent k j c.args.longest known.power_le known.next-power-gt s.power) in
+    let same : 2 ^ j ≡ 2 ^ k = ap (λ (n : ℕ). 2 ^ n) (exponent k j c.args.longest known.power_le known.next_power_gt s.power) in
     elim c.then-log-longest.branch [
       | then-log-longest-via-then-log-longest w ↦ w.if-log-longest.true (one ∙ sym same ∙ sym s.power)
       | then-log-longest-via-else-log-longest+then-log-bits w ↦
@@ -29,7 +29,7 @@ pub returns : goal.returns
 returns c =
     let k = c.ilog2-log.result in
     let known = c.ilog2-log.ensures in
-    let least = some k c.args.longest c.if-longest-lt2.false known.next-power-gt in
+    let least = some k c.args.longest c.if-longest-lt2.false known.next_power_gt in
     let power : c.args.longest ≡ 2 ^ k = sym c.if-log-longest.false ∙ one_shl k 16 known.bound in
     let room = pow_mono (let z : k ≤ c.args.bits - 1 = omega (arith, c.if-log-bits.false) in z) in (
       record {

@@ -10,4 +10,4 @@ returns-then-n-eq0 c = power_zero c.args.width ∙ ap (power c.args.width) (sym 
 pub returns : goal.returns
 returns c =
     ap (λ (x : ℕ). eqb x c.args.n && leb c.ilog2-k.result c.args.width) (one_shl c.ilog2-k.result 32 c.ilog2-k.ensures.bound)
-    ∙ power_log c.args.width c.args.n c.ilog2-k.result c.ilog2-k.ensures.power_le c.ilog2-k.ensures.next-power-gt
+    ∙ power_log c.args.width c.args.n c.ilog2-k.result c.ilog2-k.ensures.power_le c.ilog2-k.ensures.next_power_gt

@@ -10,6 +10,6 @@ pub returns-in-Layer : goal.returns-in-Layer
 returns-in-Layer c =
     let self = c.args.self in let k = self.log in let v = c.args.value in let i = c.in-Layer.i in
     let stands = subst (HasColumn (bits_of self.width) k) c.in-Layer.is c.requires in
-    ⊎_elim (λ (lt : v < i). c.layer-bit.ensures.under lt ∙ sym (layer_under (2 ^ k) v i lt stands.1))
-    (λ (ge : i ≤ v). c.layer-bit.ensures.from ge ∙ sym (layer_from (2 ^ k) v i ge)) (cases_lt v i)
+    ⊎_elim (λ (lt : v < i). c.layer_bit.ensures.under lt ∙ sym (layer_under (2 ^ k) v i lt stands.1))
+    (λ (ge : i ≤ v). c.layer_bit.ensures.from ge ∙ sym (layer_from (2 ^ k) v i ge)) (cases_lt v i)
     ∙ ap (answer_of k v) (sym c.in-Layer.is)

@@ -19,9 +19,9 @@ returns c =
     let self = c.args.self in let w = bits_of self.width in let k = self.log in let j = c.args.j in
     let b = c.bits-bits.ensures in
     let h = c.half.ensures.half in
-    let i = c.layer-at.result in
+    let i = c.layer_at.result in
     let ge : w - k + 1 ≤ j = omega (arith, c.if-j-leads.false) in
     let e : i ≡ j - (w - k + 1) + 1 + cond (ltb (2 ^ k / 2) i) 1 0 =
-    c.layer-at.ensures.counted ∙ ap₂ (λ (n m : ℕ). j - (n - k + 1) + 1 + cond (ltb m i) 1 0) b h in
-    let p = column_counted w k self.least self.room j i ge c.requires (λ z. c.layer-at.ensures.skipped (z ∙ sym h)) e in
+    c.layer_at.ensures.counted ∙ ap₂ (λ (n m : ℕ). j - (n - k + 1) + 1 + cond (ltb m i) 1 0) b h in
+    let p = column_counted w k self.least self.room j i ge c.requires (λ z. c.layer_at.ensures.skipped (z ∙ sym h)) e in
     record { is = sym p.0; stands = (p.1, p.2) }

@@ -9,6 +9,6 @@ use Rattle.short.proofs.code.ShortCode.keeps.Goals as goal
 pub returns-in-Lead : goal.returns-in-Lead
 returns-in-Lead c =
     let self = c.args.self in let w = bits_of self.width in let k = self.log in let b = c.in-Lead.b in
-    ap₂ beq (c.lead-bit.ensures ∙ ap (λ (v : ℕ). lead v b) c.last.ensures) c.lead-bit-in-Lead.ensures
+    ap₂ beq (c.lead_bit.ensures ∙ ap (λ (v : ℕ). lead v b) c.last.ensures) c.lead_bit-in-Lead.ensures
     ∙ sym (agreeing_ends w k self.least self.room c.args.start c.requires.within b (subst (HasColumn w k) c.in-Lead.is c.requires.stands).0)
     ∙ ap (stays w k c.args.start) (sym c.in-Lead.is)

@@ -7,4 +7,4 @@ use Rattle.simple.proofs.plain.PlainSideDigitRun.digit.Goals as goal
 pub returns : goal.returns
 returns c =
     let f = plain_side c.args.self.now.side in let i = c.args.i in
-    c.side-digit.ensures ∙ ap (λ (b : ℕ). f (b - 1 - i)) c.bits.ensures ∙ sym (highest_at f (bits_of c.args.self.now.width) i c.requires)
+    c.side_digit.ensures ∙ ap (λ (b : ℕ). f (b - 1 - i)) c.bits.ensures ∙ sym (highest_at f (bits_of c.args.self.now.width) i c.requires)

@@ -7,4 +7,4 @@ use Rattle.simple.proofs.plain.PlainValueDigitRun.digit.Goals as goal
 pub returns : goal.returns
 returns c =
     let f = plain_digit c.args.self.now.value in let i = c.args.i in
-    c.value-digit.ensures ∙ ap (λ (b : ℕ). f (b - 1 - i)) c.bits.ensures ∙ sym (highest_at f (bits_of c.args.self.now.width) i c.requires)
+    c.value_digit.ensures ∙ ap (λ (b : ℕ). f (b - 1 - i)) c.bits.ensures ∙ sym (highest_at f (bits_of c.args.self.now.width) i c.requires)

@@ -6,4 +6,4 @@ use Rattle.short.proofs.code.runs.AnyRunDigitRun.digit.Goals as goal
 pub returns : goal.returns
 returns c =
     let code = c.args.self.now.code in
-    sym (any_at (bits_of code.width) code.log code.least code.room c.args.-i c.requires)
+    sym (any_at (bits_of code.width) code.log code.least code.room c.args._i c.requires)

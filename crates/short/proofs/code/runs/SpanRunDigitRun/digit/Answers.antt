@@ -9,6 +9,6 @@ use Rattle.short.proofs.code.runs.SpanRunDigitRun.digit.Goals as goal
 pub returns : goal.returns
 returns c =
     let self = c.args.self.now in let code = self.code in let w = bits_of code.width in let k = code.log in
-    c.span-digit.ensures
+    c.span_digit.ensures
     ∙ ap₂ (λ (u : ℕ) (col : Column). over (full_digit w k self.span.low col) (full_digit w k u col)) self.ends c.column.ensures.is
     ∙ sym (span_at w k code.least code.room self.span.low self.span.len self.low self.least self.most c.args.i c.requires)

@@ -9,5 +9,5 @@ use Rattle.short.proofs.code.runs.ValueRunDigitRun.digit.Goals as goal
 pub returns : goal.returns
 returns c =
     let self = c.args.self.now in let code = self.code in
-    c.value-digit.ensures ∙ ap (λ (col : Column). digit_of true (answer_of code.log self.value col)) c.column.ensures.is
+    c.value_digit.ensures ∙ ap (λ (col : Column). digit_of true (answer_of code.log self.value col)) c.column.ensures.is
     ∙ sym (value_at (bits_of code.width) code.log code.least code.room self.value c.args.i c.requires)

@@ -10,6 +10,15 @@ use std::alloc::{AllocError, Global};
 use ternary::refusal::Refusal;
 use ternary::word::Word;
 
+// The line, and what it asks for or that it is not a question.
+pub fn answered_line(heap: Global, line: &str) -> Result<String, AllocError> {
+    let text = match Question::read(heap, line)? {
+        Some(question) => answer(heap, &question)?,
+        None => String::from_str(heap, "not a question")?,
+    };
+    format!(in heap; "{line} = {text}")
+}
+
 pub fn answer(heap: Global, question: &Question) -> Result<String, AllocError> {
     match question.first {
         Setting::Plain { bits } => with_first(heap, PlainCode::new(bits), question),

@@ -1,0 +1,17 @@
+// Prints the words that the short code makes, alone and joined, so that they can be compared with another program's.
+//
+// The questions, their answers and the format of both are in crates/questions and docs/codes.md.
+#![tactic(auto)]
+
+use questions::answer::answered_line;
+use std::io::{BufRead, BufReader};
+
+fn main(rt: HostRuntime) -> anyhow::Result<()> {
+    let heap = rt.alloc();
+    for line in BufReader::new(heap, rt.stdin())?.lines(heap) {
+        let line = line?;
+        let answered = answered_line(heap, line.as_str())?;
+        println!(rt; "{answered}")?;
+    }
+    Ok(())
+}
