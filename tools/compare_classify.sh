@@ -3,15 +3,15 @@
 #
 #     tools/compare_classify.sh [COUNT]        300 random inputs where no count is given
 #
-# It runs target/bin/classify, which `rt check classify` makes. An input on which the two differ is left in
+# It runs crates/classify/out/classify, which `tools/try-classify` makes. An input on which the two differ is left in
 # target/compare/, with what each of them wrote.
 set -eu
 cd "$(dirname "$0")/.."
 count=${1:-300}
-program=target/bin/classify
+program=crates/classify/out/classify
 dir=target/compare
 if [ ! -x "$program" ]; then
-    echo "there is no $program: run 'rt check classify' first" >&2
+    echo "there is no $program: run tools/try-classify first" >&2
     exit 2
 fi
 rm -rf "$dir"
