@@ -1,8 +1,9 @@
 #!/usr/bin/env python3
-"""An independent model of the codes, written from docs/codes.md: answers the questions of the program `words`.
+"""An independent model of the codes, written from docs/codes.md: answers the questions of the programs `words` and `short_words`.
 
-    tools/words_model.py questions > crates/words/stdin      writes the questions
-    tools/words_model.py < crates/words/stdin                answers them, as crates/words/stdout has them
+    tools/words_model.py questions > crates/words/stdin                writes the questions about plain and fence codes
+    tools/words_model.py short-questions > crates/short_words/stdin    writes those about the short code
+    tools/words_model.py < crates/words/stdin                          answers them, as crates/words/stdout has them
 
 It works on sets of values and on text, never on bits of a word, and shares nothing with the Rattle sources.
 """
@@ -359,14 +360,13 @@ def short_questions():
     yield "short 4 4 4 value 5"
 
 
-def questions():
-    yield from plain_and_fence_questions()
-    yield from dict.fromkeys(short_questions())
+# The lists of questions, by the word that asks for them. The short code's has each question once.
+QUESTIONS = {"questions": plain_and_fence_questions, "short-questions": lambda: dict.fromkeys(short_questions())}
 
 
 def main():
-    if sys.argv[1:] == ["questions"]:
-        for q in questions():
+    if sys.argv[1:]:
+        for q in QUESTIONS[sys.argv[1]]():
             print(q)
     else:
         for line in sys.stdin:

@@ -1,6 +1,6 @@
 -- Words that are made digit by digit from an index.
 use Rattle.std.proofs.Common.{◌≡◌, ℕ, ◌+◌, ◌-◌, ◌<◌, ◌≤◌, Bool, true, false, List, [], ◌∷◌, map, Decides, sym, refl, ◌∙◌, ap₂, arith}
-use Rattle.std.specs.List.{range_with_len, AllByRecursion as All}
+use Rattle.std.specs.List.{range_with_len, AllByRecursion}
 use Rattle.std.proofs.lemmas.List.FromFn.{get_or-map-range_with_len, length-map-range_with_len}
 use Rattle.ternary.specs.declared.digit.Digit.{Digit}
 use Rattle.ternary.specs.declared.digit.Digit.TheVariants.{Any}
@@ -23,12 +23,12 @@ fits_map f g a n = (
 )
 
 -- what holds of f at every index holds of every element
-pub all_map : (P : Digit → Type 0) (f : ℕ → Digit) → ((i : ℕ) → P (f i)) → (xs : List ℕ) → All P (map f xs)
+pub all_map : (P : Digit → Type 0) (f : ℕ → Digit) → ((i : ℕ) → P (f i)) → (xs : List ℕ) → AllByRecursion P (map f xs)
 all_map P f h [] = tt
 all_map P f h (x ∷ xs) = (h x, all_map P f h xs)
 
 -- two words that are made column by column match exactly when their digits agree in each
-pub fits_each : {X : Type 0} (f g : X → Digit) (xs : List X) → Decides (fits (map f xs) (map g xs)) (All (λ x. agree (f x) (g x) ≡ true) xs)
+pub fits_each : {X : Type 0} (f g : X → Digit) (xs : List X) → Decides (fits (map f xs) (map g xs)) (AllByRecursion (λ x. agree (f x) (g x) ≡ true) xs)
 fits_each f g [] = (λ _. tt, λ _. refl)
 fits_each f g (x ∷ xs) = (
   (λ e. let p = and_parts (agree (f x) (g x)) (fits (map f xs) (map g xs)) e in (p.0, (fits_each f g xs).0 p.1)),

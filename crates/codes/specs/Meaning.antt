@@ -1,6 +1,6 @@
 -- What a field code means (its fields, and the words of a value list and of a box), and the law that it keeps.
 use Rattle.std.specs.Prelude.{◌≡◌, ℕ, ◌^◌, ◌<◌, ◌≤◌, Bool, true, false, ◌&&◌, List, [], ◌∷◌, length, Some, None, Option}
-use Rattle.std.specs.List.{AllByRecursion as All}
+use Rattle.std.specs.List.{AllByRecursion}
 use Rattle.ternary.specs.declared.digit.Digit.{Digit}
 use Rattle.ternary.specs.declared.digit.Digit.TheVariants.{Zero, One, Any}
 use Rattle.ternary.specs.Words.{fits}
@@ -72,12 +72,12 @@ pub record Small (m : Meaning) : Type 0 where
 pub record Lawful (m : Meaning) : Type 0 where
   -- one field or more, each with its law
   pub some : 1 ≤ length m.fields
-  pub each : All FieldLaw m.fields
+  pub each : AllByRecursion FieldLaw m.fields
   -- every word of the code has the code's count of digits
   pub value_size : (vs : List ℕ) → Values m.fields vs → length (m.value_word vs) ≡ m.size
   pub box_size : (bs : List (Option Span)) → Boxes m.fields bs → length (m.box_word bs) ≡ m.size
   -- a value word has no *
-  pub no_any : (vs : List ℕ) → Values m.fields vs → All (λ d. sharp d ≡ true) (m.value_word vs)
+  pub no_any : (vs : List ℕ) → Values m.fields vs → AllByRecursion (λ d. sharp d ≡ true) (m.value_word vs)
   -- a value word matches a box word exactly when the box holds the values
   pub matching : Small m → (vs : List ℕ) (bs : List (Option Span)) → Values m.fields vs → Boxes m.fields bs
       → fits (m.value_word vs) (m.box_word bs) ≡ in_box m.fields vs bs

@@ -1,7 +1,7 @@
 -- A chip that holds a rule list answers what the list gives.
 use Rattle.std.proofs.Common.{◌≡◌, ℕ, zero, suc, ◌+◌, ◌*◌, ◌/◌, ◌%◌, ◌<◌, Bool, true, false, cond, ltb, List, [], ◌∷◌, ◌++◌, map, length, set, replicate, Some, None, Ok, Err, Option, Result, sym, refl, ap, ◌∙◌, subst, ap₂, append_assoc, arith, length-append}
 use lib.Seq.{set_at}
-use Rattle.std.specs.List.{AllByRecursion as All}
+use Rattle.std.specs.List.{AllByRecursion}
 use Rattle.std.specs.Option.{option_map}
 use Rattle.std.proofs.lemmas.List.{length-map, map-append}
 use Rattle.std.proofs.ByRecursion.{All-append}
@@ -39,7 +39,7 @@ module _ (m : Meaning) (law : Lawful m) (vs : List ℕ) (small : Small m) (good 
   either true i t later here gives p q = ap (λ (x : ℕ × ℕ). Some x) p
   either false i t later here gives p q = q
 
-  first_gives : (rs : List Rule) → All (λ r. box_refusal m r.sides ≡ None) rs → All (λ r. r.class < 65536) rs → (k i : ℕ)
+  first_gives : (rs : List Rule) → AllByRecursion (λ r. box_refusal m r.sides ≡ None) rs → AllByRecursion (λ r. r.class < 65536) rs → (k i : ℕ)
       → option_map told (first_from i (map (row_of m) rs ++ replicate k empty_row) (row_digits (m.value_word vs))) ≡ list_gives m.fields rs vs
   first_gives [] ts ps k i = ap (option_map told) (none_first k i (row_digits (m.value_word vs)))
   first_gives (r ∷ rs) ts ps k i =

@@ -1,6 +1,6 @@
 -- What a rule's row and a telegram's key hold, and what a rule list gives a telegram.
 use Rattle.std.specs.Prelude.{◌≡◌, ℕ, ◌+◌, ◌-◌, ◌*◌, ◌/◌, ◌%◌, ◌<◌, cond, List, [], ◌∷◌, ◌++◌, map, length, replicate, Some, None, Ok, Err, Option, Result, slice_set}
-use Rattle.std.specs.List.{AllByRecursion as All}
+use Rattle.std.specs.List.{AllByRecursion}
 use Rattle.std.specs.Option.{option_map}
 use Rattle.ternary.specs.declared.digit.Digit.{Digit}
 use Rattle.ternary.specs.declared.digit.Digit.TheVariants.{Zero, Any}
@@ -68,8 +68,8 @@ class_answer m rows vs =
 
 -- the chip's rows hold a rule list: its rules from row 0 up in the list's order, and empty rows behind them
 pub record Held (m : Meaning) (rs : List Rule) (rows : List Row) : Type 0 where
-  pub taken : All (λ r. box_refusal m r.sides ≡ None) rs
-  pub plain : All (λ r. r.class < 65536) rs
+  pub taken : AllByRecursion (λ r. box_refusal m r.sides ≡ None) rs
+  pub plain : AllByRecursion (λ r. r.class < 65536) rs
   pub free : ℕ
   pub are : rows ≡ map (row_of m) rs ++ replicate free empty_row
 

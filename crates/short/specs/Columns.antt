@@ -2,7 +2,7 @@
 use Rattle.std.specs.Prelude.{◌≡◌, ℕ, zero, suc, ◌+◌, ◌-◌, ◌*◌, ◌/◌, ◌^◌, ◌<◌, ◌≤◌, Bool, true, cond, not, ◌⊎◌, List, ◌∷◌, ◌++◌, map, length, get_or, filter, ◌==◌, ◌≢◌, nat_lt, slice_index, slice_index_or, refl}
 use Rattle.std.proofs.Common.{sym, ap₂, subst, ◌∙◌, inl, inr, ⊎_elim, arith, pow_pos}
 use Rattle.std.proofs.Math.Path.{ap}
-use Rattle.std.specs.List.{range_with_len, AllByRecursion as All}
+use Rattle.std.specs.List.{range_with_len, AllByRecursion}
 use Rattle.std.proofs.lemmas.List.FromFn.{length-range_with_len, get_or-range_with_len, length-map-range_with_len, get_or-map-range_with_len}
 use Rattle.std.proofs.lemmas.List.Elements.{filter-append}
 use Rattle.std.proofs.ByRecursion.{All-get_or, All-append, All-map}
@@ -25,7 +25,7 @@ kept_all p a (suc n) all =
     cond-true (p a) (a ∷ filter p (range_with_len (a + 1) n)) (filter p (range_with_len (a + 1) n)) (all a (omega arith) (omega arith))
     ∙ ap (λ (xs : List ℕ). a ∷ xs) (kept_all p (a + 1) n (λ i lo hi. all i (omega arith) (omega arith)))
 
-all_counting : (P : ℕ → Type 0) (a n : ℕ) → ((i : ℕ) → a ≤ i → i < a + n → P i) → All P (range_with_len a n)
+all_counting : (P : ℕ → Type 0) (a n : ℕ) → ((i : ℕ) → a ≤ i → i < a + n → P i) → AllByRecursion P (range_with_len a n)
 all_counting P a zero all = tt
 all_counting P a (suc n) all = (all a (omega arith) (omega arith), all_counting P (a + 1) n (λ i lo hi. all i (omega arith) (omega arith)))
 
@@ -132,13 +132,13 @@ module _ (w k : ℕ) (lo : 1 ≤ k) (hi : k < w) where
       (cases_lt (2 ^ k / 2) i)
 
   pub all_columns : (P : Column → Type 0) → ((b : ℕ) → k ≤ b + 1 → b < w → P (Lead b)) → ((i : ℕ) → 1 ≤ i → i < 2 ^ k → (i ≢ 2 ^ (k - 1)) → P (Layer i))
-      → All P (columns w k)
+      → AllByRecursion P (columns w k)
   all_columns P leads layers =
       let e = eh in
       let g = pow_pos (k - 1) in
       let xs = range_with_len 1 (2 ^ (k - 1) - 1) in
       let ys = range_with_len (2 ^ (k - 1) + 1) (2 ^ (k - 1) - 1) in
-      subst (All P) (sym split)
+      subst (AllByRecursion P) (sym split)
       (All-append P (map (λ j. Lead (w - 1 - j)) (range_with_len 0 (w - k + 1))) (map Layer (xs ++ ys))
       (All-map P (λ j. Lead (w - 1 - j)) (range_with_len 0 (w - k + 1)) (all_counting (λ j. P (Lead (w - 1 - j))) 0 (w - k + 1) (λ j l u. leads (w - 1 - j) (omega arith) (omega arith))))
       (All-map P Layer (xs ++ ys)
@@ -146,7 +146,7 @@ module _ (w k : ℕ) (lo : 1 ≤ k) (hi : k < w) where
       (all_counting (λ i. P (Layer i)) 1 (2 ^ (k - 1) - 1) (λ i l u. layers i l (omega arith) (λ z. omega arith)))
       (all_counting (λ i. P (Layer i)) (2 ^ (k - 1) + 1) (2 ^ (k - 1) - 1) (λ i l u. layers i (omega arith) (omega arith) (λ z. omega arith))))))
 
-  pub each_lead : (P : Column → Type 0) → All P (columns w k) → (b : ℕ) → k ≤ b + 1 → b < w → P (Lead b)
+  pub each_lead : (P : Column → Type 0) → AllByRecursion P (columns w k) → (b : ℕ) → k ≤ b + 1 → b < w → P (Lead b)
   each_lead P all b l u =
       let n = columns_length in
       let e = eh in
@@ -154,7 +154,7 @@ module _ (w k : ℕ) (lo : 1 ≤ k) (hi : k < w) where
       subst P (column_lead (w - 1 - b) (omega arith) ∙ ap Lead (let z : w - 1 - (w - 1 - b) ≡ b = omega arith in z))
       (All-get_or P (columns w k) (w - 1 - b) (Lead 0) (omega arith) all)
 
-  pub each_layer : (P : Column → Type 0) → All P (columns w k) → (i : ℕ) → 1 ≤ i → i < 2 ^ k → (i ≢ 2 ^ (k - 1)) → P (Layer i)
+  pub each_layer : (P : Column → Type 0) → AllByRecursion P (columns w k) → (i : ℕ) → 1 ≤ i → i < 2 ^ k → (i ≢ 2 ^ (k - 1)) → P (Layer i)
   each_layer P all i l u ne =
       let n = columns_length in
       let e = eh in

@@ -2,7 +2,7 @@
 use Rattle.std.specs.Prelude.{◌≡◌, Bool, true, false, ◌&&◌, List, [], ◌∷◌, length, refl}
 use Rattle.std.proofs.Common.{sym, ap, ap₂, ◌∙◌, arith}
 use Rattle.std.proofs.Math.Bool.{and-true}
-use Rattle.std.specs.List.{AllByRecursion as All}
+use Rattle.std.specs.List.{AllByRecursion}
 use Rattle.std.proofs.lemmas.Bool.{and_parts, and_from, true≢false}
 use Rattle.ternary.specs.declared.digit.Digit.{Digit}
 use Rattle.ternary.specs.declared.digit.Digit.TheVariants.{Zero, One, Any}
@@ -47,7 +47,7 @@ and_swap true false false d = refl
 and_swap false b c d = refl
 
 -- a word without * that matches two words keeps them from clashing
-pub fits_both : (ys zs bs : List Digit) → length zs ≡ length ys → length bs ≡ length ys → All (λ d. sharp d ≡ true) ys → fits ys zs ≡ true → fits ys bs ≡ true
+pub fits_both : (ys zs bs : List Digit) → length zs ≡ length ys → length bs ≡ length ys → AllByRecursion (λ d. sharp d ≡ true) ys → fits ys zs ≡ true → fits ys bs ≡ true
     → (fits zs bs ≡ true) × (joining zs bs ≡ joining bs zs)
 fits_both [] [] [] l m s p q = (refl, refl)
 fits_both [] [] (b ∷ bs) l m s p q = absurd (omega arith)

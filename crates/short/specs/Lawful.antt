@@ -6,7 +6,7 @@ use Rattle.std.proofs.Math.Bool.{and-true}
 use Rattle.std.proofs.Math.Logic.{⊎_elim}
 use Rattle.std.proofs.Math.Nat.{mod-eq_of_lt, add-mod_right}
 use native.Mathlib.Omega.{arith}
-use Rattle.std.specs.List.{AllByRecursion as All}
+use Rattle.std.specs.List.{AllByRecursion}
 use Rattle.std.proofs.lemmas.List.{length-map, get_or-map}
 use Rattle.std.proofs.lemmas.Bool.{cases_eq, cases_lt, and_parts, and_from, leb-true, le-leb, ltb-true, lt-ltb, eq-eqb, ne_eqb, cond-true, cond-false}
 use Rattle.std.proofs.lemmas.Bool.Decides.{same_from_decides, Decides-ltb}
@@ -100,11 +100,11 @@ module _ (w k : ℕ) (lo : 1 ≤ k) (hi : k < w) where
   unfolding any_word
   any_at i h = get_or-map (λ _. Any) (columns w k) i (Lead 0) Any (omega (arith, columns_length w k lo hi))
 
-  sharp_each : (v : ℕ) (cs : List Column) → All (λ d. sharp d ≡ true) (map (λ c. digit_of true (answer_of k v c)) cs)
+  sharp_each : (v : ℕ) (cs : List Column) → AllByRecursion (λ d. sharp d ≡ true) (map (λ c. digit_of true (answer_of k v c)) cs)
   sharp_each v [] = tt
   sharp_each v (c ∷ cs) = (sharp_of (answer_of k v c), sharp_each v cs)
 
-  value_sharp : (v : ℕ) → All (λ d. sharp d ≡ true) (value_word w k v)
+  value_sharp : (v : ℕ) → AllByRecursion (λ d. sharp d ≡ true) (value_word w k v)
   unfolding value_word
   value_sharp v = sharp_each v (columns w k)
 
@@ -183,7 +183,7 @@ module _ (w k : ℕ) (lo : 1 ≤ k) (hi : k < w) where
   unfolding value_word any_word
   any_fits v = (fits_each (λ c. digit_of true (answer_of k v c)) (λ _. Any) (columns w k)).1 (each (columns w k))
     where
-      each : (cs : List Column) → All (λ c. agree (digit_of true (answer_of k v c)) Any ≡ true) cs
+      each : (cs : List Column) → AllByRecursion (λ c. agree (digit_of true (answer_of k v c)) Any ≡ true) cs
       each [] = tt
       each (c ∷ cs) = (agree_any (digit_of true (answer_of k v c)), each cs)
 

@@ -3,7 +3,7 @@ use Rattle.std.specs.Prelude.{◌≡◌, ℕ, ◌+◌, ◌-◌, ◌^◌, ◌<◌
 use Rattle.std.proofs.Common.{sym, ◌∙◌, arith}
 use Rattle.std.proofs.Math.Bool.{and-true}
 use Rattle.std.proofs.Math.Logic.{⊎_elim}
-use Rattle.std.specs.List.{range_with_len, AllByRecursion as All}
+use Rattle.std.specs.List.{range_with_len, AllByRecursion}
 use Rattle.std.proofs.lemmas.List.FromFn.{get_or-map-range_with_len, length-map-range_with_len}
 use Rattle.std.proofs.lemmas.Bool.{cases_lt, le-leb, lt-leb, leb-true, leb-false}
 use Rattle.std.proofs.lemmas.Bool.Decides.{same_from_decides}
@@ -73,7 +73,7 @@ pub fenced_at : (f : ℕ → Digit) (w j : ℕ) → j < 2 ^ w - 1 → slice_inde
 unfolding fenced
 fenced_at f w j h = get_or-map-range_with_len f 1 (2 ^ w - 1) j (j + 1) Any h (omega arith)
 
-fenced_sharp : (v w : ℕ) → All (λ d. sharp d ≡ true) (fenced (fence_digit v) w)
+fenced_sharp : (v w : ℕ) → AllByRecursion (λ d. sharp d ≡ true) (fenced (fence_digit v) w)
 unfolding fenced
 fenced_sharp v w = all_map (λ d. sharp d ≡ true) (fence_digit v) (sharp_fence v) (range_with_len 1 (2 ^ w - 1))
 

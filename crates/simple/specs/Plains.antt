@@ -4,7 +4,7 @@ use Rattle.std.proofs.Common.{sym, ap, subst, ◌∙◌, ⊎_elim, add-mul, mul-
 use Rattle.std.proofs.Math.Bool.{and-true}
 use Rattle.std.proofs.Math.Nat.{mod-one}
 use Rattle.std.proofs.Math.Arith.{digits_div}
-use Rattle.std.specs.List.{range_with_len, AllByRecursion as All}
+use Rattle.std.specs.List.{range_with_len, AllByRecursion}
 use Rattle.std.proofs.lemmas.Nat.{div_below, pow_below, shr_below}
 use Rattle.std.proofs.lemmas.List.FromFn.{length-map-range_with_len, get_or-map-range_with_len}
 use Rattle.std.proofs.lemmas.Bool.{eqb-true, eq-eqb, and_parts, and_from, or_cases, or_left, or_right, cases_lt, cases_eq, le-ltb, lt-ltb, true≢false, leb-true, le-leb}
@@ -92,7 +92,7 @@ pub highest_length : (f : ℕ → Digit) (w : ℕ) → length (highest f w) ≡ 
 unfolding highest
 highest_length f w = length-map-range_with_len (λ (p : ℕ). f (w - 1 - p)) 0 w
 
-sharp_highest : (v w : ℕ) → All (λ d. sharp d ≡ true) (highest (λ b. digit_of true (bit v b)) w)
+sharp_highest : (v w : ℕ) → AllByRecursion (λ d. sharp d ≡ true) (highest (λ b. digit_of true (bit v b)) w)
 unfolding highest
 sharp_highest v w = all_map (λ d. sharp d ≡ true) (λ (p : ℕ). digit_of true (bit v (w - 1 - p))) (λ p. sharp_of (bit v (w - 1 - p))) (range_with_len 0 w)
 
