@@ -10,13 +10,12 @@ use std::alloc::{AllocError, Global};
 use ternary::refusal::Refusal;
 use ternary::word::Word;
 
-// The line, and what it asks for or that it is not a question.
-pub fn answered_line(heap: Global, line: &str) -> Result<String, AllocError> {
-    let text = match Question::read(heap, line)? {
-        Some(question) => answer(heap, &question)?,
-        None => String::from_str(heap, "not a question")?,
-    };
-    format!(in heap; "{line} = {text}")
+// What the line asks for, or that it is not a question.
+pub fn answer_line(heap: Global, line: &str) -> Result<String, AllocError> {
+    match Question::read(heap, line)? {
+        Some(question) => answer(heap, &question),
+        None => String::from_str(heap, "not a question"),
+    }
 }
 
 pub fn answer(heap: Global, question: &Question) -> Result<String, AllocError> {

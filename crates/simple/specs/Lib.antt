@@ -1,4 +1,6 @@
+-- definitions
 pub mod Plain
 pub mod Fence
-pub mod Fences
+-- the proofs that the two codes keep the law
 pub mod Plains
+pub mod Fences

@@ -172,7 +172,7 @@ impl Eq for Word {
     ghost laws = { same_word_equiv };
 }
 
-// Words with the same digits are one word, so `==` of words is equality of meanings.
+// Words with the same digits are one word, and `==` is true exactly where the digits are equal: it is equality of meanings.
 pub fn words_law() -> u8
     ensures words { WordsLaw }
     ensures same { SameLaw }
