@@ -68,19 +68,17 @@ def main():
     antt = sorted(glob.glob("crates/*/specs/**/*.antt", recursive=True) + glob.glob("crates/*/proofs/**/*.antt", recursive=True))
     code = sorted(glob.glob("crates/*/src/**/*.rt", recursive=True))
     text = {f: open(f, encoding="utf-8").read() for f in antt + code}
-    renamed, where = {}, {}
+    renamed = {}
     for f in antt:
         for name, is_type in declared(text[f]).items():
             new = new_spelling(name, is_type)
             if new != name:
                 renamed[name] = new
-                where.setdefault(name, set()).add(f)
     for f in code:
         for name in ghost_fields(text[f]):
             new = new_spelling(name, False)
             if new != name:
                 renamed[name] = new
-                where.setdefault(name, set()).add(f)
     # a new name that some file speaks of already, or that two old names would share
     seen = {}
     for f in antt + code:

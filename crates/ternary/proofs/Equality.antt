@@ -5,7 +5,7 @@ use Rattle.ternary.specs.declared.digit.Digit.TheVariants.{Any}
 use Rattle.ternary.specs.declared.word.Word.{Word}
 use Rattle.ternary.specs.Bit.{plane_bit}
 use denote.Struct.Props.{props}
-use mathlib.Core.HLevel.{×_prop, Unit-prop, Σ_prop_path}
+use mathlib.Core.HLevel.{Σ_prop_path}
 use Rattle.ternary.specs.Words.{digit_at, digits, WordsLaw}
 use Rattle.ternary.specs.Limbs.{apart}
 use Rattle.ternary.proofs.Bits.{bits_same, or_none, xor_none}
@@ -51,7 +51,7 @@ equal_words a b c d e f p q r s =
     parts k e = or_none (bit_xor (get_or a.care k 0) (get_or b.care k 0)) (bit_xor (get_or a.ones k 0) (get_or b.ones k 0)) e
 
 kept_prop : (cs os : List ℕ) → IsProp (Kept cs os)
-kept_prop cs os = ×_prop (hlevel props) (×_prop (hlevel props) (×_prop (hlevel props) (×_prop (hlevel props) (×_prop (hlevel props) Unit-prop))))
+kept_prop cs os = hlevel props
 
 abbrev Packed : Type 0
 Packed = (p : List ℕ × List ℕ) × Kept p.0 p.1
@@ -60,15 +60,18 @@ word_of : Packed → Word
 word_of v = record {
   care = v.0.0;
   ones = v.0.1;
-  care_long = v.1.0;
-  ones_long = v.1.1.0;
-  care_fits = v.1.1.1.0;
-  ones_fits = v.1.1.1.1.0;
-  within = v.1.1.1.1.1.0;
+  care_long = v.1.care_long;
+  ones_long = v.1.ones_long;
+  care_fits = v.1.care_fits;
+  ones_fits = v.1.ones_fits;
+  within = v.1.within;
 }
 
 packed : Word → Packed
-packed w = ((w.care, w.ones), (w.care_long, (w.ones_long, (w.care_fits, (w.ones_fits, (w.within, tt))))))
+packed w = (
+  (w.care, w.ones),
+  record { care_long = w.care_long; ones_long = w.ones_long; care_fits = w.care_fits; ones_fits = w.ones_fits; within = w.within },
+)
 
 pub words_law : WordsLaw
 unfolding word_of packed

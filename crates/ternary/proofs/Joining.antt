@@ -55,23 +55,14 @@ module _ (a b : Word) (cs os : List ℕ)
       rw (ones k h) (or_lt 64 (get_or a.ones k 0) (bit_and (get_or b.ones k 0) (2 ^ 64 - 1 - get_or a.care k 0)) (a.ones_fits k h) (omega arith))
 
   pub join_kept : length cs ≡ 4 → length os ≡ 4 → Kept cs os
-  join_kept lc lo = (
-    lc,
-    (
-      lo,
-      (
-        join_care_fits,
-        (
-          join_ones_fits,
-          (
-            (λ p h. ap₂ (λ o c. o && not c) (join_ones p h) (join_care p h)
-                ∙ join_within (plane_bit a.care p) (plane_bit a.ones p) (plane_bit b.care p) (plane_bit b.ones p) (a.within p h) (b.within p h)),
-            tt,
-          ),
-        ),
-      ),
-    ),
-  )
+  join_kept lc lo = record {
+    care_long = lc;
+    ones_long = lo;
+    care_fits = join_care_fits;
+    ones_fits = join_ones_fits;
+    within = λ p h. ap₂ (λ o c. o && not c) (join_ones p h) (join_care p h)
+        ∙ join_within (plane_bit a.care p) (plane_bit a.ones p) (plane_bit b.care p) (plane_bit b.ones p) (a.within p h) (b.within p h);
+  }
 
   pub join_digits : (v : Word) → v.care ≡ cs → v.ones ≡ os → digits v ≡ joining (digits a) (digits b)
   unfolding digit_at

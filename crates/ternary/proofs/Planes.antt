@@ -114,6 +114,12 @@ pub digits_planes : (a b : Word) → a.care ≡ b.care → a.ones ≡ b.ones →
 unfolding digits digit_at
 digits_planes a b p q = ap₂ (λ (xs ys : List ℕ). map (λ i. digit_of (plane_bit xs i) (plane_bit ys i)) (range_with_len 0 256)) p q
 
--- the facts that a word's planes keep
+-- the facts that a word's planes keep, by the names of the type's ghost fields
 abbrev pub Kept : List ℕ → List ℕ → Type 0
-Kept cs os = (length cs ≡ 4) × ((length os ≡ 4) × (Fitting cs × (Fitting os × (Within cs os × Unit {0}))))
+Kept cs os = record {
+  care_long : length cs ≡ 4;
+  ones_long : length os ≡ 4;
+  care_fits : Fitting cs;
+  ones_fits : Fitting os;
+  within : Within cs os;
+}

@@ -157,49 +157,31 @@ module _ (w : Word) (i : ℕ) (lt : i < 256) (m : ℕ) (is : m ≡ 2 ^ (i % 64))
 
   -- what is put keeps the planes' facts
   pub kept_one : Kept (on_at w.care i m) (on_at w.ones i m)
-  kept_one = (
-    on_long w.care w.care_long w.care_fits i lt m is,
-    (
-      on_long w.ones w.ones_long w.ones_fits i lt m is,
-      (
-        on_fits w.care w.care_long w.care_fits i lt m is,
-        (
-          on_fits w.ones w.ones_long w.ones_fits i lt m is,
-          ((λ p h. ap₂ (λ o c. o && not c) (ones_on p) (care_on p) ∙ in_on_on (plane_bit w.care p) (plane_bit w.ones p) (eqb p i) (w.within p h)), tt),
-        ),
-      ),
-    ),
-  )
+  kept_one = record {
+    care_long = on_long w.care w.care_long w.care_fits i lt m is;
+    ones_long = on_long w.ones w.ones_long w.ones_fits i lt m is;
+    care_fits = on_fits w.care w.care_long w.care_fits i lt m is;
+    ones_fits = on_fits w.ones w.ones_long w.ones_fits i lt m is;
+    within = λ p h. ap₂ (λ o c. o && not c) (ones_on p) (care_on p) ∙ in_on_on (plane_bit w.care p) (plane_bit w.ones p) (eqb p i) (w.within p h);
+  }
 
   pub kept_zero : Kept (on_at w.care i m) (off_at w.ones i m)
-  kept_zero = (
-    on_long w.care w.care_long w.care_fits i lt m is,
-    (
-      off_long w.ones w.ones_long w.ones_fits i lt m is,
-      (
-        on_fits w.care w.care_long w.care_fits i lt m is,
-        (
-          off_fits w.ones w.ones_long w.ones_fits i lt m is,
-          ((λ p h. ap₂ (λ o c. o && not c) (ones_off p) (care_on p) ∙ in_on_off (plane_bit w.care p) (plane_bit w.ones p) (eqb p i) (w.within p h)), tt),
-        ),
-      ),
-    ),
-  )
+  kept_zero = record {
+    care_long = on_long w.care w.care_long w.care_fits i lt m is;
+    ones_long = off_long w.ones w.ones_long w.ones_fits i lt m is;
+    care_fits = on_fits w.care w.care_long w.care_fits i lt m is;
+    ones_fits = off_fits w.ones w.ones_long w.ones_fits i lt m is;
+    within = λ p h. ap₂ (λ o c. o && not c) (ones_off p) (care_on p) ∙ in_on_off (plane_bit w.care p) (plane_bit w.ones p) (eqb p i) (w.within p h);
+  }
 
   pub kept_any : Kept (off_at w.care i m) (off_at w.ones i m)
-  kept_any = (
-    off_long w.care w.care_long w.care_fits i lt m is,
-    (
-      off_long w.ones w.ones_long w.ones_fits i lt m is,
-      (
-        off_fits w.care w.care_long w.care_fits i lt m is,
-        (
-          off_fits w.ones w.ones_long w.ones_fits i lt m is,
-          ((λ p h. ap₂ (λ o c. o && not c) (ones_off p) (care_off p) ∙ in_off_off (plane_bit w.care p) (plane_bit w.ones p) (eqb p i) (w.within p h)), tt),
-        ),
-      ),
-    ),
-  )
+  kept_any = record {
+    care_long = off_long w.care w.care_long w.care_fits i lt m is;
+    ones_long = off_long w.ones w.ones_long w.ones_fits i lt m is;
+    care_fits = off_fits w.care w.care_long w.care_fits i lt m is;
+    ones_fits = off_fits w.ones w.ones_long w.ones_fits i lt m is;
+    within = λ p h. ap₂ (λ o c. o && not c) (ones_off p) (care_off p) ∙ in_off_off (plane_bit w.care p) (plane_bit w.ones p) (eqb p i) (w.within p h);
+  }
 
   module _ (v : Word) where
     put_by : (d : Digit) (f g : Bool → Bool → Bool) → ((p : ℕ) → plane_bit v.care p ≡ f (plane_bit w.care p) (eqb p i))

@@ -6,12 +6,11 @@ use Rattle.ternary.proofs.word.Word.join.Goals as goal
 pub invariant_of-result : goal.invariant_of-result
 invariant_of-result c =
     let a = c.args.self.now in let b = c.args.other.now in
-    let k = join_kept a b
+    join_kept a b
     (c.join_care.result ∷ c.join_care-2.result ∷ c.join_care-3.result ∷ c.join_care-4.result ∷ [])
     (c.join_ones.result ∷ c.join_ones-2.result ∷ c.join_ones-3.result ∷ c.join_ones-4.result ∷ [])
     (limbs_are (care_at a b) c.join_care.ensures c.join_care-2.ensures c.join_care-3.ensures c.join_care-4.ensures)
-    (limbs_are (ones_at a b) c.join_ones.ensures c.join_ones-2.ensures c.join_ones-3.ensures c.join_ones-4.ensures) refl refl in
-    record { care_long = k.0; ones_long = k.1.0; care_fits = k.1.1.0; ones_fits = k.1.1.1.0; within = k.1.1.1.1.0 }
+    (limbs_are (ones_at a b) c.join_ones.ensures c.join_ones-2.ensures c.join_ones-3.ensures c.join_ones-4.ensures) refl refl
 
 pub returns : goal.returns
 returns c =

@@ -4,9 +4,7 @@ use Rattle.ternary.proofs.Putting.{kept_one, put_one}
 use Rattle.ternary.proofs.word.Word.put_one.Goals as goal
 
 pub invariant_of-self : goal.invariant_of-self
-invariant_of-self c =
-    let k = kept_one c.args.self.now c.args.i (omega arith) _ (one_shl (c.args.i % 64) 64 (omega arith)) in
-    record { care_long = k.0; ones_long = k.1.0; care_fits = k.1.1.0; ones_fits = k.1.1.1.0; within = k.1.1.1.1.0 }
+invariant_of-self c = kept_one c.args.self.now c.args.i (omega arith) _ (one_shl (c.args.i % 64) 64 (omega arith))
 
 pub returns : goal.returns
 returns c = put_one c.args.self.now c.args.i (omega arith) _ (one_shl (c.args.i % 64) 64 (omega arith)) _ refl refl
