@@ -1,4 +1,3 @@
 pub mod Memory
-pub mod Puts
 pub mod Finds
 pub mod Steps

@@ -2,21 +2,21 @@
 //
 // No call has a premise: a row that is not on the chip is refused, and a refused call changes nothing.
 ghost use Rattle.std.specs.Borrow.{GName};
-ghost use Rattle.std.specs.Prelude.{◌≡◌, ℕ, ◌≤◌, List, length, Option, slice_set};
-ghost use Rattle.ternary.specs.declared.digit.Digit.{Digit};
+ghost use Rattle.std.specs.Prelude.{◌≡◌, ◌≤◌, List, length, slice_set};
 ghost use Rattle.ternary.specs.Words.{digits};
 ghost use Rattle.ternary.specs.Refusals.{answered};
-ghost use Rattle.chips.specs.Chip.{read_told, read_answer, put_answer, empty_row, full_row, first_match, PutLaw, FindLaw};
+ghost use Rattle.chips.specs.Chip.{Holding, read_told, read_answer, put_answer, empty_row, full_row, first_match, PutLaw, FindLaw};
 
-use crate::slot::Slot;
+use crate::row::Row;
 use ternary::refusal::Refusal;
 use ternary::word::Word;
 
 pub trait Chip {
-    // each row: none, or its word's digits and its tag
-    ghost rows: { Self → List (Option (List Digit × ℕ)) };
+    // what each row holds: nothing, or its word's digits and its tag
+    ghost rows: { Self → List Holding };
 
-    // the loans of memory that the chip works through; no call ends or trades one
+    // the loans of memory that the chip works through; no call ends or trades one, which each has to say, since a call
+    // through a `&mut` could put another chip in its place
     ghost loans: { Self → List GName };
 
     // How many rows the chip has.
@@ -25,7 +25,7 @@ pub trait Chip {
         ensures few { result ≤ 4096 };
 
     // What a row holds.
-    fn read(&self, row: u16) -> Result<Slot, Refusal>
+    fn read(&self, row: u16) -> Result<Option<Row>, Refusal>
         ensures { read_told result ≡ read_answer (rows self.now) row };
 
     // Puts a word and a tag into a row, whatever it held.
@@ -40,21 +40,21 @@ pub trait Chip {
         ensures after { rows self.new ≡ slice_set (rows self.old) row empty_row }
         ensures lent { loans self.new ≡ loans self.old };
 
-    // The lowest row whose word matches the key, with its tag.
+    // The lowest row whose word matches the key, with its tag: a pair of plain numbers, the project's form for answers.
     fn find(&self, key: &Word) -> Option<(u16, u32)>
         ensures { result ≡ first_match (rows self.now) (digits key.now) };
+
+    // no chip has more than 4,096 rows
+    ghost few: { (c : Self) → length (rows c) ≤ 4096 };
 }
 
 // A write or an erase that is accepted changes its own row and no other; one that is refused changes nothing.
-pub fn put_law() -> u8
+pub fn put_law()
     ensures { PutLaw }
-{
-    0
-}
+{}
 
 // What `find` answers is the lowest row that matches, with its tag, or that none does; no other answer is.
-pub fn find_law() -> u8
+#[tactic(auto, using(crate::proofs::Finds::find_law))]
+pub fn find_law()
     ensures { FindLaw }
-{
-    0
-}
+{}

@@ -4,5 +4,5 @@
 #![tactic(auto)]
 
 pub mod chip;
+pub mod row;
 pub mod rows;
-pub mod slot;

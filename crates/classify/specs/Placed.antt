@@ -5,7 +5,7 @@ use Rattle.ternary.specs.declared.word.Word.{Word}
 use Rattle.ternary.specs.Words.{digits}
 use Rattle.codes.specs.Meaning.{Meaning}
 use Rattle.codes.specs.Coding.{box_refusal}
-use Rattle.chips.specs.Chip.{Row}
+use Rattle.chips.specs.Chip.{Holding}
 use Rattle.listing.specs.declared.rule.Rule.{Rule}
 use Rattle.rules.specs.Rules.{rule, row_digits, Held}
 use Rattle.rules.specs.Rules.{Rule as RowRule}
@@ -24,7 +24,7 @@ placed m n rs = take n (map as_row (filter (taken m) rs))
 
 -- One rule is put into a row, and w is its word. Rows that hold a list up to that row then hold it with the rule at its end; or the code
 -- does not take the rule or the row is not there, and the rows stay.
-abbrev pub Step : Meaning → Rule → ℕ → List Row → List Row → Result Word Refusal → Type 0
+abbrev pub Step : Meaning → Rule → ℕ → List Holding → List Holding → Result Word Refusal → Type 0
 Step m r row old new (Ok w) =
     (taken m r ≡ true) × (row < length old) × (length new ≡ length old) × ((rs : List RowRule) → Held m rs old → row ≡ length rs → Held m (rs ++ as_row r ∷ []) new) × (digits w ≡ row_digits (m.box_word (vec_items r.sides)))
 Step m r row old new (Err e) = (new ≡ old) × ((taken m r ≡ false) ⊎ (length old ≤ row))

@@ -1,7 +1,6 @@
 // The whole input: what its lines hold, and the faults of those that hold nothing.
-ghost use Rattle.std.specs.Prelude.{◌≤◌};
-ghost use Rattle.std.specs.Option.{unwrap_or};
-ghost use Rattle.reading.specs.Lines.{FromLine};
+ghost use Rattle.std.specs.Prelude.{◌≡◌, ◌≤◌};
+ghost use Rattle.std.specs.Option.{unwrap_or, option_map};
 
 use codes::code::FieldCode;
 use listing::fault::{Cause, Fault};
@@ -9,18 +8,18 @@ use listing::list::RuleList;
 use listing::rule::Rule;
 use listing::telegram::Telegram;
 use reading::line::{Line, parse_line};
+use reading::rows::RowCount;
 use std::alloc::{AllocFailed, Global};
 use std::io;
 use std::io::{BufRead, BufReader};
 
 #[derive(Drop)]
 pub struct Input {
-    rows: Option<u16>,
+    rows: Option<RowCount>,
     rules: RuleList,
     telegrams: Vec<Telegram>,
     // in the order of their lines
     faults: Vec<Fault>,
-    ghost few: { unwrap_or rows 256 ≤ 256 },
 }
 
 impl Input {
@@ -35,9 +34,10 @@ impl Input {
 
     // How many rows the chip has: 256 where no line says.
     pub fn rows(&self) -> u16
-        ensures { result ≤ 256 }
+        ensures value { result ≡ unwrap_or (option_map (λ r. r.rows) self.now.rows) 256 }
+        ensures few { result ≤ 256 }
     {
-        self.rows.unwrap_or(256)
+        self.rows.map_or(256, u16::from)
     }
 
     pub fn rules(&self) -> &[Rule] {
@@ -52,24 +52,17 @@ impl Input {
         self.faults.as_slice()
     }
 
-    // Takes up what line number `line` holds.
-    fn take(&mut self, line: u64, held: Line) -> Result<(), Cause>
-        requires { FromLine line held }
-    {
+    // Takes up what a line holds, or says what is wrong with it beside the lines before it.
+    fn take(&mut self, held: Line) -> Result<(), Cause> {
         match held {
             Line::Blank => Ok(()),
             Line::Rows(rows) => self.set_rows(rows),
             Line::Rule(rule) => self.rules.add(rule),
-            Line::Telegram(telegram) => match self.telegrams.push(telegram) {
-                Ok(()) => Ok(()),
-                Err(_) => Err(Cause::NoMemory),
-            },
+            Line::Telegram(telegram) => Ok(self.telegrams.push(telegram)?),
         }
     }
 
-    fn set_rows(&mut self, rows: u16) -> Result<(), Cause>
-        requires { rows ≤ 256 }
-    {
+    fn set_rows(&mut self, rows: RowCount) -> Result<(), Cause> {
         if self.rows.is_some() {
             return Err(Cause::RowsTwice);
         }
@@ -77,22 +70,13 @@ impl Input {
         Ok(())
     }
 
-    // Reads line number `line`; a fault is kept, and nothing else of the line.
-    fn read<F: FieldCode>(
-        &mut self,
-        heap: Global,
-        code: &F,
-        line: u64,
-        text: &str,
-    ) -> Result<(), AllocFailed<Fault>> {
-        let fault = match parse_line(heap, code, line, text) {
-            Ok(held) => match self.take(line, held) {
-                Ok(()) => return Ok(()),
-                Err(cause) => Fault { line, cause },
-            },
-            Err(fault) => fault,
-        };
-        self.faults.push(fault)
+    // Takes up what was read from line number `line`; a fault is kept, and nothing else of the line.
+    fn keep(&mut self, line: u64, read: Result<Line, Fault>) -> Result<(), AllocFailed<Fault>> {
+        // a match, so that the fault is not pushed in the middle of a chain
+        match read.and_then(|held| self.take(held).map_err(|cause| Fault { line, cause })) {
+            Ok(()) => Ok(()),
+            Err(fault) => self.faults.push(fault),
+        }
     }
 }
 
@@ -101,15 +85,10 @@ impl Input {
 pub fn gather<F: FieldCode>(rt: &HostRuntime, code: &F) -> io::Result<Input> {
     let heap = rt.alloc();
     let mut input = Input::new(heap);
-    let mut reader = BufReader::new(heap, rt.stdin())?;
-    let mut bytes = Vec::new(heap);
-    for line in 1..u64::MAX {
-        bytes.clear();
-        if reader.read_until(b'\n', &mut bytes)? == 0 {
-            break;
-        }
-        let text = String::from_utf8_lossy(heap, bytes.as_slice())?;
-        input.read(heap, code, line, text.as_str())?;
+    let reader = BufReader::new(heap, rt.stdin())?;
+    for (line, bytes) in (1..).zip(reader.split(heap, b'\n')) {
+        let text = String::from_utf8_lossy(heap, bytes?.as_slice())?;
+        input.keep(line, parse_line(heap, code, line, text.as_str()))?;
     }
     Ok(input)
 }

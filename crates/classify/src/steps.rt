@@ -1,5 +1,5 @@
 // The three steps behind the reading: the faults, the rules and the telegrams.
-ghost use Rattle.std.specs.Prelude.{◌<◌, [], length, OnOk};
+ghost use Rattle.std.specs.Prelude.{◌≡◌, [], length, OnOk};
 ghost use Rattle.rules.specs.Rules.{Held};
 ghost use Rattle.classify.specs.Placed.{placed, Step};
 
@@ -8,11 +8,13 @@ use codes::code::FieldCode;
 use listing::fault::Fault;
 use listing::rule::Rule;
 use listing::telegram::Telegram;
-use printing::report::{Answered, Digits, PlacedRule, RefusedRule};
-use rules::place::{class_of, place_rule};
+use printing::report::{Answered, PlacedRule, RefusedRule};
+use rules::board::Board;
 use rules::row::rule_word;
+use rules::rule::RuleRow;
 use std::io;
 use ternary::refusal::Refusal;
+use ternary::text::Digits;
 use ternary::word::Word;
 
 pub fn print_faults(rt: &HostRuntime, faults: &[Fault]) -> io::Result<()> {
@@ -24,49 +26,49 @@ pub fn print_faults(rt: &HostRuntime, faults: &[Fault]) -> io::Result<()> {
 
 // Writes a rule into a row, and gives the word that the row then holds.
 fn place<C: Chip, F: FieldCode>(
-    chip: &mut C,
-    code: &F,
+    board: &mut Board<C, F>,
     row: u16,
     rule: &Rule,
 ) -> Result<Word, Refusal>
-    ensures { Step (F.FieldCode.meaning code.now) rule.now row (C.Chip.rows chip.old) (C.Chip.rows chip.new) result }
+    ensures step { Step (F.FieldCode.meaning board.old.code) rule.now row (C.Chip.rows board.old.chip) (C.Chip.rows board.new.chip) result }
+    ensures kept { board.new.code ≡ board.old.code }
 {
     let sides = rule.sides.as_slice();
-    let word = match rule_word(code, sides) {
-        Ok(word) => word,
-        Err(refusal) => return Err(refusal),
+    let word = rule_word(&board.code, sides)?;
+    let placed = RuleRow {
+        number: rule.number,
+        class: rule.class,
+        sides,
     };
-    match place_rule(chip, code, row, rule.number, rule.class, sides) {
-        Ok(()) => Ok(word),
-        Err(refusal) => Err(refusal),
-    }
+    board.place_rule(row, &placed)?;
+    Ok(word)
 }
 
 // Fills the chip from row 0 up, and prints each row or refusal. A refused rule takes no row.
 pub fn place_rules<C: Chip, F: FieldCode>(
     rt: &HostRuntime,
-    chip: &mut C,
-    code: &F,
+    board: &mut Board<C, F>,
     rules: &[Rule],
 ) -> io::Result<()>
-    requires empty { Held (F.FieldCode.meaning code.now) [] (C.Chip.rows chip.old) }
-    requires few { length (C.Chip.rows chip.old) < 65536 }
-    ensures { OnOk result (Held (F.FieldCode.meaning code.now) (placed (F.FieldCode.meaning code.now) (length (C.Chip.rows chip.old)) rules.now) (C.Chip.rows chip.new)) }
+    requires { Held (F.FieldCode.meaning board.old.code) [] (C.Chip.rows board.old.chip) }
+    ensures kept { board.new.code ≡ board.old.code }
+    ensures rows { OnOk result (Held (F.FieldCode.meaning board.old.code) (placed (F.FieldCode.meaning board.old.code) (length (C.Chip.rows board.old.chip)) rules.now) (C.Chip.rows board.new.chip)) }
 {
-    let size = code.size().min(255) as u8;
+    let last = board.code.size().min(255) as u8;
+    // counts the rules that got a row, so it is no index of the list
     let mut row: u16 = 0;
     for rule in rules {
-        match place(chip, code, row, rule) {
+        match place(board, row, rule) {
             Ok(word) => {
-                let digits = Digits { word, size };
-                let placed = PlacedRule { row, rule, digits };
-                println!(rt; "{placed}")?;
+                let digits = Digits {
+                    word,
+                    first: 0,
+                    last,
+                };
+                println!(rt; "{}", PlacedRule { row, rule, digits })?;
                 row = row.saturating_add(1);
             }
-            Err(refusal) => {
-                let refused = RefusedRule { rule, refusal };
-                println!(rt; "{refused}")?;
-            }
+            Err(refusal) => println!(rt; "{}", RefusedRule { rule, refusal })?,
         }
     }
     Ok(())
@@ -75,14 +77,12 @@ pub fn place_rules<C: Chip, F: FieldCode>(
 // Puts each telegram's key to the chip, and prints its class and rule, or none.
 pub fn class_telegrams<C: Chip, F: FieldCode>(
     rt: &HostRuntime,
-    chip: &C,
-    code: &F,
+    board: &Board<C, F>,
     telegrams: &[Telegram],
 ) -> io::Result<()> {
     for telegram in telegrams {
-        let answer = class_of(chip, code, telegram.values.as_slice());
-        let answered = Answered { telegram, answer };
-        println!(rt; "{answered}")?;
+        let answer = board.class_of(telegram.values.as_slice());
+        println!(rt; "{}", Answered { telegram, answer })?;
     }
     Ok(())
 }

@@ -1,5 +1,5 @@
--- The lowest field whose element does not pass, as a loop over the fields finds it, and what passing tells.
-use Rattle.std.proofs.Common.{◌≡◌, ℕ, zero, suc, ◌+◌, ◌^◌, ◌<◌, ◌≤◌, Bool, true, false, cond, eqb, leb, List, [], ◌∷◌, length, get_or, drop, Some, None, Option, sym, refl, ap, ◌∙◌, ap₂, ⊎_elim, add-one, arith, drop_of_length-le, drop-cons}
+-- What it tells that every element passes, and that the lowest field whose element does not is the only such answer.
+use Rattle.std.proofs.Common.{◌≡◌, ℕ, zero, suc, ◌+◌, ◌^◌, ◌<◌, ◌≤◌, Bool, true, false, cond, eqb, leb, List, [], ◌∷◌, length, get_or, Some, None, Option, sym, refl, ap, ◌∙◌, ⊎_elim, arith}
 use Rattle.std.proofs.lemmas.Bool.{ltb-true, leb-true, eqb-true, and_parts, cond-true, cond-false, true≢false, cases_lt, cases_eq}
 use Rattle.ternary.specs.Refusals.{Report, report}
 use Rattle.codes.specs.declared.span.Span.{Span}
@@ -7,25 +7,6 @@ use Rattle.codes.specs.Meaning.{Field, Meaning, Small, Per, Values, Taken, Boxes
 use Rattle.codes.specs.Coding.{first_bad, at_field, or_else, count_refusal, is_small, value_ok, span_ok, taken_ok, values_refusal, box_refusal, LowestBad, LowestBadLaw}
 
 module _ {X : Type 0} (ok : Field → X → Bool) where
-  -- one element more passes
-  pub first_more : (fs : List Field) (xs : List X) (i : ℕ) (z : X) → i < length fs → i < length xs → ok (get_or fs i no_field) (get_or xs i z) ≡ true
-      → first_bad ok i (drop i fs) (drop i xs) ≡ first_bad ok (i + 1) (drop (i + 1) fs) (drop (i + 1) xs)
-  first_more fs xs i z hf hx e =
-      ap₂ (first_bad ok i) (drop-cons fs i no_field hf) (drop-cons xs i z hx) ∙ cond-true _ _ _ e
-      ∙ ap (λ (k : ℕ). first_bad ok (i + 1) (drop k fs) (drop k xs)) (sym (add-one i))
-
-  pub first_stop : (fs : List Field) (xs : List X) (i : ℕ) (z : X) → i < length fs → i < length xs → ok (get_or fs i no_field) (get_or xs i z) ≡ false
-      → first_bad ok i (drop i fs) (drop i xs) ≡ Some i
-  first_stop fs xs i z hf hx e =
-      ap₂ (first_bad ok i) (drop-cons fs i no_field hf) (drop-cons xs i z hx) ∙ cond-false _ _ _ e
-
-  first_end : (fs : List Field) (i : ℕ) → first_bad {X = X} ok i fs [] ≡ None
-  first_end [] i = refl
-  first_end (f ∷ fs) i = refl
-
-  pub first_none : (fs : List Field) (xs : List X) (i : ℕ) → length xs ≤ i → first_bad ok i (drop i fs) (drop i xs) ≡ None
-  first_none fs xs i h = ap (first_bad ok i (drop i fs)) (drop_of_length-le xs h) ∙ first_end (drop i fs) i
-
   -- where no field is named, each element passes
   pub none_bad : (fs : List Field) (xs : List X) (i : ℕ) → length xs ≡ length fs → first_bad ok i fs xs ≡ None → Per (λ f x. ok f x ≡ true) fs xs
   none_bad [] [] i l e = tt

@@ -26,6 +26,11 @@ first_bad ok i [] xs = None
 first_bad ok i (f ∷ fs) [] = None
 first_bad ok i (f ∷ fs) (x ∷ xs) = cond (ok f x) (first_bad ok (i + 1) fs xs) (Some i)
 
+-- the field at which a check fails, or none
+abbrev pub failing : Result Unit ℕ → Option ℕ
+failing (Ok u) = None
+failing (Err i) = Some i
+
 -- the line of number n, which fits at a field or at none
 abbrev pub at_field : ℕ → Option ℕ → Option Report
 at_field n None = None
@@ -54,9 +59,13 @@ box_refusal m bs =
     or_else (count_refusal m (length bs)) (or_else (at_field 9 (first_bad span_ok 0 m.fields bs)) (at_field 10 (first_bad taken_ok 0 m.fields bs)))
 
 -- a check's answer: the refusal, or none
-abbrev pub told_of : Option Refusal → Option Report
-told_of None = None
-told_of (Some e) = Some (told e)
+abbrev pub told_of : Result Unit Refusal → Option Report
+told_of (Ok u) = None
+told_of (Err e) = Some (told e)
+
+-- whatever a call answers at a field and an element is whether the element passes there
+abbrev pub Tests : {X : Type 0} → (ℕ → X → Bool → Type 0) → (Field → X → Bool) → List Field → Type 0
+Tests {X = X} answers ok fs = (i : ℕ) (x : X) (b : Bool) → i < length fs → answers i x b → b ≡ ok (slice_index_or fs i no_field) x
 
 -- A coding call is refused as the first line that fits says, and the word stays as it was; or no line fits, and it is done.
 abbrev pub Coded : Option Report → Type 0 → Word → Word → Result Unit Refusal → Type 0

@@ -1,3 +1,4 @@
+pub mod Runs
 -- definitions
 pub mod Spans
 pub mod Meaning

@@ -15,7 +15,8 @@ use ternary::word::Word;
 pub trait FieldCode {
     ghost meaning: { Self → Meaning };
 
-    // The count of fields, which stops at 65,535.
+    // The count of fields, which stops at 65,535. It has no body here for codes of one field, and `width` none either: such a
+    // body would break what is promised of codes with more.
     fn fields(&self) -> u16
         ensures { result ≡ min 65535 (length (meaning self.now).fields) };
 
@@ -23,6 +24,8 @@ pub trait FieldCode {
     fn size(&self) -> u16
         ensures { result ≡ min 65535 (meaning self.now).size };
 
+    // The three calls on a field ask that the code has it. A type for a field would hold its code, and so stand in place of
+    // `self`, since no clause could tell that both are one code.
     fn width(&self, field: u16) -> Width
         requires { field < min 65535 (length (meaning self.now).fields) }
         ensures { bits_of result ≡ (slice_index_or (meaning self.now).fields field no_field).width };
@@ -37,7 +40,8 @@ pub trait FieldCode {
         requires { field < min 65535 (length (meaning self.now).fields) }
         ensures { result ≡ (slice_index_or (meaning self.now).fields field no_field).reach };
 
-    // Writes the word of the values from digit `at` on, and no other digit.
+    // Writes the word of the values from digit `at` on, and no other digit. Where and into what are two parameters, as an
+    // index and its slice are: of a writer that held both, each clause would also have to say where it stands afterwards.
     fn put_values(&self, values: &[u16], at: u16, out: &mut Word)
         requires small { Small (meaning self.now) }
         requires good { Values (meaning self.now).fields values.now }

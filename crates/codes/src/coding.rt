@@ -2,11 +2,14 @@
 //
 // The lines of refusal are tried in their order, each over all fields from 0 up: 5, 8, 9, 10. All of them
 // come before the first digit is written, so a refused call leaves the caller's word alone.
-ghost use Rattle.std.specs.Prelude.{◌≡◌, ℕ, ◌<◌, min, length, None, Option, slice_index_or};
+//
+// Values and boxes have calls of their own, here and in `FieldCode`: their words and their lines of refusal differ, and a
+// trait over both would have to say of each what these say.
+ghost use Rattle.std.specs.Prelude.{◌≡◌, ℕ, ◌<◌, ◌≤◌, Bool, List, length, min, Option, OnOk, slice_index_or};
 ghost use Rattle.codes.specs.declared.span.Span.{Span};
-ghost use Rattle.codes.specs.Meaning.{Small, no_field};
+ghost use Rattle.codes.specs.Meaning.{Field, Small, no_field};
 ghost use Rattle.codes.specs.Writing.{ValuesPut, BoxPut};
-ghost use Rattle.codes.specs.Coding.{values_refusal, box_refusal, Coded, first_bad, span_ok, taken_ok, value_ok, is_small, count_refusal, told_of, LowestBadLaw};
+ghost use Rattle.codes.specs.Coding.{values_refusal, box_refusal, Coded, first_bad, failing, Tests, span_ok, taken_ok, is_small, count_refusal, told_of, LowestBadLaw};
 
 use crate::code::FieldCode;
 use crate::span::Span;
@@ -17,137 +20,93 @@ use ternary::word::Word;
 fn is_small<F: FieldCode>(code: &F) -> bool
     ensures { result ≡ is_small (F.FieldCode.meaning code.now) }
 {
-    (code.fields() <= 8) & (code.size() <= 255)
+    code.fields() <= 8 && code.size() <= 255
 }
 
-// Whether a value is one of the field's.
-fn value_fits<F: FieldCode>(code: &F, field: u16, value: u16) -> bool
-    requires { field < min 65535 (length (F.FieldCode.meaning code.now).fields) }
-    ensures { result ≡ value_ok (slice_index_or (F.FieldCode.meaning code.now).fields field no_field) value }
+// Whether the code takes any list of n elements: 5 or 8 where it takes none.
+fn check_count<F: FieldCode>(code: &F, n: usize) -> Result<(), Refusal>
+    ensures told { told_of result ≡ count_refusal (F.FieldCode.meaning code.now) n }
+    ensures good { OnOk result (Small (F.FieldCode.meaning code.now) × (n ≡ length (F.FieldCode.meaning code.now).fields)) }
 {
-    (value as u32) < code.width(field).count()
+    if !is_small(code) {
+        return Err(Refusal::CodeTooLarge);
+    }
+    if n != usize::from(code.fields()) {
+        return Err(Refusal::WrongFieldCount);
+    }
+    Ok(())
 }
 
-// The lowest field whose value exceeds it.
-fn lowest_large<F: FieldCode>(code: &F, values: &[u16]) -> Option<u16>
-    requires small { Small (F.FieldCode.meaning code.now) }
-    requires values_len { length values.now ≡ length (F.FieldCode.meaning code.now).fields }
-    ensures { result ≡ first_bad value_ok 0 (F.FieldCode.meaning code.now).fields values.now }
+// Whether each element passes, as `passes(field, element)` tells; else the lowest field whose element does not. A loop,
+// since `position` on a chain asks that the test may be called at any number, and there are only so many fields.
+fn check_each<T: Copy, P: Fn(u16, T) -> bool>(elements: &[T], passes: P) -> Result<(), u16>
+    requires few { length elements.now ≤ 8 }
+    requires told { (i : ℕ) (x : T) → i < length elements.now → P.pre passes i x }
+    ensures { (ok : Field → T → Bool) (fs : List Field) → length fs ≡ length elements.now → Tests (P.post passes) ok fs → failing result ≡ first_bad ok 0 fs elements.now }
 {
-    for (i, value) in values.iter().enumerate() {
-        if !value_fits(code, i as u16, *value) {
-            return Some(i as u16);
+    for (i, element) in elements.iter().enumerate() {
+        if !passes(i as u16, *element) {
+            return Err(i as u16);
         }
     }
-    None
+    Ok(())
 }
 
-// Whether a side of a box is "any" or stands in its field.
-fn side_in_field<F: FieldCode>(code: &F, field: u16, side: Option<Span>) -> bool
+// Whether a side of a box is "any" or stands in its field. This and the next have names: as closures in `check_box` they
+// left its proof open.
+fn stands_in<F: FieldCode>(code: &F, field: u16, side: Option<Span>) -> bool
     requires { field < min 65535 (length (F.FieldCode.meaning code.now).fields) }
     ensures { result ≡ span_ok (slice_index_or (F.FieldCode.meaning code.now).fields field no_field) side }
 {
-    match side {
-        None => true,
-        Some(span) => span.in_field(code.width(field)),
-    }
-}
-
-// The lowest field whose side does not stand in it.
-fn lowest_misfit<F: FieldCode>(code: &F, sides: &[Option<Span>]) -> Option<u16>
-    requires small { Small (F.FieldCode.meaning code.now) }
-    requires sides_len { length sides.now ≡ length (F.FieldCode.meaning code.now).fields }
-    ensures { result ≡ first_bad span_ok 0 (F.FieldCode.meaning code.now).fields sides.now }
-{
-    for (i, side) in sides.iter().enumerate() {
-        if !side_in_field(code, i as u16, *side) {
-            return Some(i as u16);
-        }
-    }
-    None
+    side.is_none_or(|span| span.in_field(code.width(field)))
 }
 
 // Whether a side of a box is "any" or a span that the code accepts.
-fn side_accepted<F: FieldCode>(code: &F, field: u16, side: Option<Span>) -> bool
+fn is_taken<F: FieldCode>(code: &F, field: u16, side: Option<Span>) -> bool
     requires { field < min 65535 (length (F.FieldCode.meaning code.now).fields) }
     ensures { result ≡ taken_ok (slice_index_or (F.FieldCode.meaning code.now).fields field no_field) side }
 {
-    match side {
-        None => true,
-        Some(span) => code.accepts(field, span),
-    }
+    side.is_none_or(|span| code.accepts(field, span))
 }
 
-// The lowest field whose side the code does not accept.
-fn lowest_untaken<F: FieldCode>(code: &F, sides: &[Option<Span>]) -> Option<u16>
-    requires small { Small (F.FieldCode.meaning code.now) }
-    requires sides_len { length sides.now ≡ length (F.FieldCode.meaning code.now).fields }
-    ensures { result ≡ first_bad taken_ok 0 (F.FieldCode.meaning code.now).fields sides.now }
-{
-    for (i, side) in sides.iter().enumerate() {
-        if !side_accepted(code, i as u16, *side) {
-            return Some(i as u16);
-        }
-    }
-    None
-}
-
-// Why the code refuses any list of n elements, or None.
-fn count_refusal<F: FieldCode>(code: &F, n: usize) -> Option<Refusal>
-    ensures told { told_of result ≡ count_refusal (F.FieldCode.meaning code.now) n }
-    ensures good { result ≡ None → Small (F.FieldCode.meaning code.now) × (n ≡ length (F.FieldCode.meaning code.now).fields) }
-{
-    if !is_small(code) {
-        Some(Refusal::CodeTooLarge)
-    } else if n != code.fields() as usize {
-        Some(Refusal::WrongFieldCount)
-    } else {
-        None
-    }
-}
-
-// Why the code refuses these values, or None: 5, 8, or 9 at the lowest field whose value exceeds it.
-pub fn check_values<F: FieldCode>(code: &F, values: &[u16]) -> Option<Refusal>
+// Whether the code takes these values: 5, 8, or 9 at the lowest field whose value exceeds it.
+pub fn check_values<F: FieldCode>(code: &F, values: &[u16]) -> Result<(), Refusal>
     ensures { told_of result ≡ values_refusal (F.FieldCode.meaning code.now) values.now }
 {
-    if let Some(refusal) = count_refusal(code, values.len()) {
-        return Some(refusal);
-    }
-    match lowest_large(code, values) {
-        Some(field) => Some(Refusal::OutsideField { field }),
-        None => None,
-    }
+    check_count(code, values.len())?;
+    check_each(
+        values,
+        |field, value| code.width(field).count() > u32::from(value),
+    )
+    .map_err(|large| Refusal::OutsideField { field: large })
 }
 
-// Why the code refuses this box, or None: 5, 8, 9 at the lowest field whose span does not stand in it, or 10 at
-// the lowest field whose span the code does not accept.
-pub fn check_box<F: FieldCode>(code: &F, sides: &[Option<Span>]) -> Option<Refusal>
+// Whether the code takes this box: 5, 8, 9 at the lowest field whose span does not stand in it, or 10 at the lowest
+// field whose span the code does not accept.
+pub fn check_box<F: FieldCode>(code: &F, sides: &[Option<Span>]) -> Result<(), Refusal>
     ensures { told_of result ≡ box_refusal (F.FieldCode.meaning code.now) sides.now }
 {
-    if let Some(refusal) = count_refusal(code, sides.len()) {
-        return Some(refusal);
-    }
-    if let Some(field) = lowest_misfit(code, sides) {
-        return Some(Refusal::OutsideField { field });
-    }
-    match lowest_untaken(code, sides) {
-        Some(field) => Some(Refusal::SpanNotTaken { field }),
-        None => None,
-    }
+    check_count(code, sides.len())?;
+    check_each(sides, |field, side| stands_in(code, field, side)).map_err(
+        |field| Refusal::OutsideField { field },
+    )?;
+    check_each(sides, |field, side| is_taken(code, field, side)).map_err(
+        |field| Refusal::SpanNotTaken { field },
+    )
 }
 
 // Writes the values' word into `out` from digit 1 on; digit 0 and those behind the code's stay.
+#[tactic(auto, using(crate::proofs::Checks::values_good))]
 pub fn code_values<F: FieldCode>(code: &F, values: &[u16], out: &mut Word) -> Result<(), Refusal>
     ensures { Coded (values_refusal (F.FieldCode.meaning code.now) values.now) (ValuesPut (F.FieldCode.meaning code.now) values.now 1 out.old out.new) out.old out.new result }
 {
-    if let Some(refusal) = check_values(code, values) {
-        return Err(refusal);
-    }
+    check_values(code, values)?;
     code.put_values(values, 1, out);
     Ok(())
 }
 
 // Writes the box's word into `out` from digit 1 on; digit 0 and those behind the code's stay.
+#[tactic(auto, using(crate::proofs::Checks::box_good))]
 pub fn code_box<F: FieldCode>(
     code: &F,
     sides: &[Option<Span>],
@@ -155,16 +114,12 @@ pub fn code_box<F: FieldCode>(
 ) -> Result<(), Refusal>
     ensures { Coded (box_refusal (F.FieldCode.meaning code.now) sides.now) (BoxPut (F.FieldCode.meaning code.now) sides.now 1 out.old out.new) out.old out.new result }
 {
-    if let Some(refusal) = check_box(code, sides) {
-        return Err(refusal);
-    }
+    check_box(code, sides)?;
     code.put_box(sides, 1, out);
     Ok(())
 }
 
 // A refusal at a field names the lowest one that its line fits, and there is one exactly when its line fits some.
-pub fn lowest_bad_law() -> u8
+pub fn lowest_bad_law()
     ensures { LowestBadLaw ℕ × LowestBadLaw (Option Span) }
-{
-    0
-}
+{}

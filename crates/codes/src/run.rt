@@ -7,40 +7,19 @@ ghost use Rattle.std.proofs.Math.Seq.{paste};
 ghost use Rattle.ternary.specs.declared.digit.Digit.{Digit};
 ghost use Rattle.ternary.specs.declared.digit.Digit.TheVariants.{Any};
 ghost use Rattle.ternary.specs.Words.{digits};
+ghost use Rattle.codes.specs.Runs.{Tells};
 
 use ternary::digit::Digit;
 use ternary::word::Word;
 
-pub trait DigitRun {
-    ghost size: { Self → ℕ };
-
-    ghost run: { Self → List Digit };
-
-    fn count(&self) -> u16
-        ensures { result ≡ size self.now };
-
-    fn digit(&self, i: u16) -> Digit
-        requires { i < size self.now }
-        ensures { result ≡ slice_index_or (run self.now) i Any };
-
-    ghost long: { (r : Self) → length (run r) ≡ size r };
-}
-
-// Writes digit i of the run.
-fn put_digit<R: DigitRun>(run: &R, i: u16, at: u16, out: &mut Word)
-    requires i_bound { i < R.DigitRun.size run.now }
-    requires run_bound { at + R.DigitRun.size run.now ≤ 256 }
-    ensures { digits out.new ≡ slice_set (digits out.old) (at + i) (slice_index_or (R.DigitRun.run run.now) i Any) }
+// Writes a run of digits from digit `at` on, and no other digit: `digit(i)` is the run's digit i.
+#[tactic(auto, using(crate::proofs::Runs::digit_written))]
+pub fn put_run<F: Fn(u16) -> Digit>(count: u16, digit: F, at: u16, out: &mut Word)
+    requires told { (i : ℕ) → i < count → F.pre digit i }
+    requires room { at + count ≤ 256 }
+    ensures { (run : List Digit) → length run ≡ count → Tells (F.post digit) run → digits out.new ≡ paste (digits out.old) at run count }
 {
-    out.put((at + i) as u8, run.digit(i));
-}
-
-// Writes the run from digit `at` on, and no other digit.
-pub fn put_run<R: DigitRun>(run: &R, at: u16, out: &mut Word)
-    requires { at + R.DigitRun.size run.now ≤ 256 }
-    ensures { digits out.new ≡ paste (digits out.old) at (R.DigitRun.run run.now) (R.DigitRun.size run.now) }
-{
-    for i in 0..run.count() {
-        put_digit(run, i, at, out);
+    for i in 0..count {
+        out.put((at + i) as u8, digit(i));
     }
 }

@@ -23,7 +23,7 @@ impl Span {
     fn offset(self, width: Width, value: u16) -> u32
         ensures { result ≡ (value + (2 ^ bits_of width - self.low % 2 ^ bits_of width)) % 2 ^ bits_of width }
     {
-        (value.wrapping_sub(self.low) & width.highest()) as u32
+        u32::from(value.wrapping_sub(self.low) & width.highest())
     }
 
     // The low end is one of the field's values, and the length is from 1 to 2^w.
@@ -31,6 +31,6 @@ impl Span {
         ensures { result ≡ in_field (bits_of width) (Some self) }
     {
         let count = width.count();
-        ((self.low as u32) < count) & (1 <= self.len) & (self.len <= count)
+        u32::from(self.low) < count && (1..=count).contains(&self.len)
     }
 }

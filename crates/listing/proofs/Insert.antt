@@ -1,11 +1,13 @@
 -- A rule inserted at its place.
-use Rattle.std.proofs.Common.{◌≡◌, ℕ, ◌+◌, ◌-◌, ◌<◌, ◌≤◌, true, false, cond, ◌⊎◌, List, length, get_or, is_ok, Ok, Err, Result, sym, subst, ⊎_elim, arith, MatchResult}
-use Rattle.std.specs.List.{insert}
-use Rattle.std.proofs.lemmas.List.Edits.{length-insert, get_or-insert_below, get_or-insert_at, get_or-insert_above}
-use Rattle.std.proofs.lemmas.Bool.{cases_order}
+use Rattle.std.proofs.Common.{◌≡◌, ℕ, zero, suc, ◌<◌, ◌≤◌, Bool, true, false, cond, List, [], ◌∷◌, length, get_or, take, drop, sym, subst, ⊎_elim, arith}
+use Rattle.std.specs.List.{All, AllWithin, AllPairs, insert}
+use Rattle.std.specs.List.Sorted.{IsPartitionPoint, IsPartitionedBy}
+use Rattle.std.proofs.lemmas.List.Elements.{All-cons, All-append, All-take, All-drop}
+use Rattle.std.proofs.lemmas.List.Kept.{AllPairs-cons}
+use Rattle.std.proofs.lemmas.Bool.{cases_lt, cond_both}
 use Rattle.std.proofs.lemmas.Bool.Decides.{nat_tests}
 use Rattle.listing.specs.declared.rule.Rule.{Rule}
-use Rattle.listing.specs.Order.{before, Two, Ordered, Apart, Unused, Place, Joined, Stays}
+use Rattle.listing.specs.Order.{before, Ordered, Apart, Stays}
 
 -- of two rules with different numbers one comes before the other
 other_before : (a b : Rule) → before a b ≡ false → (a.number ≡ b.number → ⊥) → before b a ≡ true
@@ -14,101 +16,46 @@ other_before a b h apart = grind (arith, nat_tests)
 before_trans : (a b c : Rule) → before a b ≡ true → before b c ≡ true → before a c ≡ true
 before_trans a b c p q = grind (arith, nat_tests)
 
--- a relation of each rule to those behind it, over a list and the same list with r at place k
-module _ (R : Rule → Rule → Type 0) (rs : List Rule) (r : Rule) (k : ℕ) (hk : k ≤ length rs) where
-  module _
-      (old : (i j : ℕ) (d : Rule) → i < j → j < length rs → R (get_or rs i d) (get_or rs j d))
-      (front : (i : ℕ) (d : Rule) → i < k → R (get_or rs i d) r)
-      (back : (j : ℕ) (d : Rule) → k ≤ j → j < length rs → R r (get_or rs j d))
-    where
-      at_below : (i : ℕ) (d : Rule) → i < k → get_or rs i d ≡ get_or (insert rs k r) i d
-      at_below i d h = sym (get_or-insert_below rs k r d i h hk)
+-- what holds of each element and each later one still does, where y comes between those that it holds of and y, and those
+-- that it holds of y and them
+AllPairs-insert : {X : Type 0} (R : X → X → Type 0) (xs : List X) (k : ℕ) (y : X) → k ≤ length xs → AllPairs R xs
+    → AllWithin (λ x. R x y) xs 0 k → AllWithin (R y) xs k (length xs) → AllPairs R (insert xs k y)
+AllPairs-insert R xs zero y hk old front back = AllPairs-cons R y xs (λ i d h. back i d (omega arith) h) old
+AllPairs-insert R [] (suc k) y hk old front back = absurd (omega arith)
+AllPairs-insert R (x ∷ xs) (suc k) y hk old front back =
+    let rest : All (R x) xs = λ i d h. old 0 (suc i) d (omega arith) (omega arith) in
+    AllPairs-cons R x (insert xs k y)
+    (All-append (R x) (take k xs) (y ∷ drop k xs) (All-take (R x) k xs rest) (All-cons (R x) y (drop k xs) (front 0 x (omega arith) (omega arith)) (All-drop (R x) k xs rest)))
+    (AllPairs-insert R xs k y (omega arith) (λ i j d lt end. old (suc i) (suc j) d (omega arith) (omega arith))
+    (λ i d _ h. front (suc i) d (omega arith) (omega arith)) (λ i d h end. back (suc i) d (omega arith) (omega arith)))
 
-      at_above : (j : ℕ) (d : Rule) → k < j → get_or rs (j - 1) d ≡ get_or (insert rs k r) j d
-      at_above j d h =
-          let e : j - 1 + 1 ≡ j = omega arith in
-          sym (subst (λ (n : ℕ). get_or (insert rs k r) n d ≡ get_or rs (j - 1) d) e (get_or-insert_above rs k r d (j - 1) (omega arith) hk))
-
-      at_here : (d : Rule) → r ≡ get_or (insert rs k r) k d
-      at_here d = sym (get_or-insert_at rs k r d hk)
-
-      moved : (a b c e : Rule) → a ≡ b → c ≡ e → R a c → R b e
-      moved a b c e p q h = subst (λ (x : Rule). R b x) q (subst (λ (x : Rule). R x c) p h)
-
-      behind : (i j : ℕ) (d : Rule) → i < j → k < j → j < length rs + 1 → R (get_or (insert rs k r) i d) (get_or (insert rs k r) j d)
-      behind i j d lt hj end =
-          ⊎_elim
-          (λ (e : i ≡ k).
-          subst (λ (n : ℕ). R (get_or (insert rs k r) n d) (get_or (insert rs k r) j d)) (sym e)
-          (moved r (get_or (insert rs k r) k d) (get_or rs (j - 1) d) (get_or (insert rs k r) j d) (at_here d) (at_above j d hj)
-          (back (j - 1) d (omega arith) (omega arith))))
-          (λ (s : (i < k) ⊎ (k < i)).
-          ⊎_elim
-          (λ (l : i < k).
-          moved (get_or rs i d) (get_or (insert rs k r) i d) (get_or rs (j - 1) d) (get_or (insert rs k r) j d) (at_below i d l) (at_above j d hj)
-          (old i (j - 1) d (omega arith) (omega arith)))
-          (λ (l : k < i).
-          moved (get_or rs (i - 1) d) (get_or (insert rs k r) i d) (get_or rs (j - 1) d) (get_or (insert rs k r) j d) (at_above i d l) (at_above j d hj)
-          (old (i - 1) (j - 1) d (omega arith) (omega arith)))
-          s)
-          (cases_order i k)
-
-      pub pairs_inserted : (i j : ℕ) (d : Rule) → i < j → j < length (insert rs k r) → R (get_or (insert rs k r) i d) (get_or (insert rs k r) j d)
-      pairs_inserted i j d lt end =
-          let long = length-insert rs k r hk in
-          ⊎_elim
-          (λ (e : j ≡ k).
-          subst (λ (n : ℕ). R (get_or (insert rs k r) i d) (get_or (insert rs k r) n d)) (sym e)
-          (moved (get_or rs i d) (get_or (insert rs k r) i d) r (get_or (insert rs k r) k d) (at_below i d (omega arith)) (at_here d) (front i d (omega arith))))
-          (λ (s : (j < k) ⊎ (k < j)).
-          ⊎_elim
-          (λ (l : j < k).
-          moved (get_or rs i d) (get_or (insert rs k r) i d) (get_or rs j d) (get_or (insert rs k r) j d) (at_below i d (omega arith)) (at_below j d l)
-          (old i j d lt (omega arith)))
-          (λ (l : k < j). behind i j d lt l (omega arith))
-          s)
-          (cases_order j k)
-
-two : (rs : List Rule) (i j : ℕ) → i < j → j < length rs → Two rs
-two rs i j lt end = record { front = i; back = j; behind = lt; within = end }
-
-module _ (rs : List Rule) (r : Rule) (k : ℕ) (p : Place rs r k) where
-  -- from its place on, every rule comes behind r
-  behind_place : Ordered rs → Unused r.number rs → (j : ℕ) (d : Rule) → k ≤ j → j < length rs → before r (get_or rs j d) ≡ true
-  unfolding two
-  behind_place o u j d h end =
-      let first : before r (get_or rs k d) ≡ true = other_before (get_or rs k d) r (p.stops d (omega arith)) (u k d (omega arith)) in
+module _ (rs : List Rule) (r : Rule) where
+  pub partitioned : Ordered rs → IsPartitionedBy (λ x. before x r) rs
+  partitioned up i j d le end h =
       ⊎_elim
-      (λ (e : k ≡ j). subst (λ (n : ℕ). before r (get_or rs n d) ≡ true) e first)
-      (λ (s : (k < j) ⊎ (j < k)).
-      ⊎_elim (λ (l : k < j). before_trans r (get_or rs k d) (get_or rs j d) first (o (two rs k j l end) d)) (λ (l : j < k). absurd (omega arith)) s)
-      (cases_order k j)
+      (λ (lt : i < j). before_trans (get_or rs i d) (get_or rs j d) r (up i j d lt end) h)
+      (λ (ge : j ≤ i). let e : i ≡ j = omega arith in subst (λ (n : ℕ). before (get_or rs n d) r ≡ true) (sym e) h)
+      (cases_lt i j)
 
-  ordered_inserted : Stays Ordered rs r (insert rs k r)
-  unfolding two
-  ordered_inserted o u q d =
-      pairs_inserted (λ (x y : Rule). before x y ≡ true) rs r k p.within (λ i j d lt end. o (two rs i j lt end) d) p.below (behind_place o u) q.front q.back d
-      q.behind q.within
+  module _ (k : ℕ) (hk : k ≤ length rs) where
+    pub ordered_inserted : (Ordered rs → IsPartitionPoint (λ x. before x r ≡ true) (λ x. before x r ≡ false) rs k) → Stays Ordered rs r (insert rs k r)
+    ordered_inserted point up free =
+        let p = point up in
+        AllPairs-insert (λ a b. before a b ≡ true) rs k r hk up p.0 (λ i d le end. other_before (get_or rs i d) r (p.1 i d le end) (free i d end))
 
-  apart_inserted : Stays Apart rs r (insert rs k r)
-  unfolding two
-  apart_inserted a u q d =
-      pairs_inserted (λ (x y : Rule). x.number ≡ y.number → ⊥) rs r k p.within (λ i j d lt end. a (two rs i j lt end) d)
-      (λ i d h. u i d (omega (arith, p.within))) (λ j d h end e. u j d end (sym e)) q.front q.back d q.behind q.within
+    pub apart_inserted : Stays Apart rs r (insert rs k r)
+    apart_inserted apart free =
+        AllPairs-insert (λ a b. a.number ≡ b.number → ⊥) rs k r hk apart (λ i d _ h. free i d (omega arith)) (λ i d _ end e. free i d end (sym e))
 
--- what `insert` leaves of a list, at the place that was found in what was seen of it
-module _ (rs seen after : List Rule) (r : Rule) (k : ℕ) (s : seen ≡ rs) (p : Place seen r k) where
-  placed : Place rs r k
-  placed = subst (λ (x : List Rule). Place x r k) s p
+-- what stays after an insert, that succeeds or not, at the place that was found in what was seen of the list
+module _ (rs seen new : List Rule) (r : Rule) (k : ℕ) (b : Bool) (e : new ≡ cond b (insert rs k r) rs) (same : seen ≡ rs) (hk : k ≤ length seen) where
+  after : (P : List Rule → Type 0) → Stays P rs r (insert rs k r) → Stays P rs r new
+  after P h p free = subst P (sym e) (cond_both b (insert rs k r) rs P (λ _. h p free) (λ _. p))
 
-  pub joined_cases : {E : Type 0} (res : Result (Unit {0}) E) → after ≡ cond (is_ok res) (insert rs k r) rs → MatchResult res (λ _. Joined rs r after) (λ _. after ≡ rs)
-  joined_cases (Ok _) e = record { place = k; within = placed.within; is = e }
-  joined_cases (Err _) e = e
+  pub ordered_after : (Ordered seen → IsPartitionPoint (λ x. before x r ≡ true) (λ x. before x r ≡ false) seen k) → Stays Ordered rs r new
+  ordered_after point =
+      after Ordered (ordered_inserted rs r k (subst (λ (xs : List Rule). k ≤ length xs) same hk)
+      (subst (λ (xs : List Rule). Ordered xs → IsPartitionPoint (λ x. before x r ≡ true) (λ x. before x r ≡ false) xs k) same point))
 
-  pub ordered_after : {E : Type 0} (res : Result (Unit {0}) E) → after ≡ cond (is_ok res) (insert rs k r) rs → Stays Ordered rs r after
-  ordered_after (Ok _) e = subst (Stays Ordered rs r) (sym e) (ordered_inserted rs r k placed)
-  ordered_after (Err _) e = λ o _. subst Ordered (sym e) o
-
-  pub apart_after : {E : Type 0} (res : Result (Unit {0}) E) → after ≡ cond (is_ok res) (insert rs k r) rs → Stays Apart rs r after
-  apart_after (Ok _) e = subst (Stays Apart rs r) (sym e) (apart_inserted rs r k placed)
-  apart_after (Err _) e = λ a _. subst Apart (sym e) a
+  pub apart_after : Stays Apart rs r new
+  apart_after = after Apart (apart_inserted rs r k (subst (λ (xs : List Rule). k ≤ length xs) same hk))

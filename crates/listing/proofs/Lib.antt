@@ -1,3 +1,2 @@
 mod Spans
-mod Numbers
 mod Insert

@@ -1,40 +1,27 @@
 -- The order of rules, and what a list of them keeps.
-use Rattle.std.specs.Prelude.{◌≡◌, ℕ, ◌<◌, ◌≤◌, Bool, true, false, cond, List, length, get_or, ◌==◌, ◌≢◌, nat_lt, slice_index_or}
-use Rattle.std.specs.List.{insert}
+use Rattle.std.specs.Prelude.{◌≡◌, ℕ, ◌<◌, ◌≤◌, Bool, true, cond, List, length, get_or, ◌==◌, ◌≢◌, nat_lt}
+use Rattle.std.specs.List.{All, AllPairs, insert}
 use Rattle.listing.specs.declared.rule.Rule.{Rule}
 
 -- a lower rank goes first, and of one rank the lower number
 abbrev pub before : Rule → Rule → Bool
 before a b = cond (a.rank == b.rank) (nat_lt a.number b.number) (nat_lt a.rank b.rank)
 
--- two places of a list, one behind the other
-pub record Two (rs : List Rule) : Type 0 where
-  pub front : ℕ
-  pub back : ℕ
-  pub behind : front < back
-  pub within : back < length rs
-
 -- strictly rising: of any two rules the one in front comes before the one behind it
 abbrev pub Ordered : List Rule → Type 0
-Ordered rs = (p : Two rs) (d : Rule) → before (slice_index_or rs p.front d) (slice_index_or rs p.back d) ≡ true
+Ordered rs = AllPairs (λ a b. before a b ≡ true) rs
 
 -- no two rules have one number
 abbrev pub Apart : List Rule → Type 0
-Apart rs = (p : Two rs) (d : Rule) → (get_or rs p.front d).number ≢ (get_or rs p.back d).number
+Apart rs = AllPairs (λ a b. a.number ≢ b.number) rs
 
 -- no rule has the number n
 abbrev pub Unused : ℕ → List Rule → Type 0
-Unused n rs = (i : ℕ) (d : Rule) → i < length rs → (get_or rs i d).number ≢ n
+Unused n rs = All (λ r. r.number ≢ n) rs
 
 -- a rule that stands in line l has the number n
 abbrev pub Used : ℕ → ℕ → List Rule → Type 0
 Used n l rs = (i : ℕ) × (i < length rs) × ((d : Rule) → ((get_or rs i d).number ≡ n) × ((get_or rs i d).line ≡ l))
-
--- the rules below place k come before r, and the one at k does not
-pub record Place (rs : List Rule) (r : Rule) (k : ℕ) : Type 0 where
-  pub within : k ≤ length rs
-  pub below : (i : ℕ) (d : Rule) → i < k → before (slice_index_or rs i d) r ≡ true
-  pub stops : (d : Rule) → k < length rs → before (slice_index_or rs k d) r ≡ false
 
 -- the new list is the old one with r at one place
 pub record Joined (old : List Rule) (r : Rule) (new : List Rule) : Type 0 where

@@ -3,10 +3,11 @@ ghost use Rattle.std.specs.Prelude.{◌≡◌, ◌++◌, Some, codes, decimal};
 ghost use Rattle.listing.specs.declared.fault.Cause.TheVariants.{NoMemory};
 ghost use Rattle.listing.specs.Faults.{cause_text};
 
-use std::alloc::{AllocError, AllocFailed};
+use std::alloc::AllocError;
+use std::error::Error;
 use std::fmt;
 
-#[derive(Drop)]
+#[derive(Debug, Drop)]
 pub enum Cause {
     // the line's first word
     UnknownWord(String),
@@ -23,25 +24,18 @@ pub enum Cause {
     NoMemory,
 }
 
-#[derive(Drop)]
+#[derive(Debug, Drop)]
 pub struct Fault {
     // from 1
     pub line: u64,
     pub cause: Cause,
 }
 
-impl From<AllocError> for Cause {
+// What the library says where there is no memory, with the value that was not stored or without.
+impl<E: Into<AllocError> + Drop> From<E> for Cause {
     ghost from_gives = { λ _ r. r ≡ NoMemory };
 
-    fn from(_e: AllocError) -> Cause {
-        Cause::NoMemory
-    }
-}
-
-impl<T: Drop> From<AllocFailed<T>> for Cause {
-    ghost from_gives = { λ _ r. r ≡ NoMemory };
-
-    fn from(_e: AllocFailed<T>) -> Cause {
+    fn from(_e: E) -> Cause {
         Cause::NoMemory
     }
 }
@@ -79,8 +73,10 @@ impl fmt::Display for Fault {
     ghost output = { λ x. Some (codes "line " ++ (decimal x.line ++ (codes ": " ++ cause_text x.cause))) };
 
     fn fmt<W: fmt::Write>(&self, f: &mut fmt::Formatter<W>) -> fmt::Result {
-        let line = self.line;
-        let cause = &self.cause;
-        write!(f, "line {line}: {cause}")
+        write!(f, "line {}: {}", self.line, self.cause)
     }
 }
+
+impl Error for Cause {}
+
+impl Error for Fault {}

@@ -10,6 +10,7 @@ use std::alloc::Global;
 
 #[derive(Drop)]
 pub struct RuleList {
+    // a Vec and no map, since `rules` hands out one slice in order
     rules: Vec<Rule>,
     ghost ordered: { Ordered rules.items },
     ghost apart: { Apart rules.items },
@@ -34,10 +35,7 @@ impl RuleList {
                 line,
             });
         }
-        match insert_rule(&mut self.rules, rule) {
-            Ok(()) => Ok(()),
-            Err(_) => Err(Cause::NoMemory),
-        }
+        Ok(insert_rule(&mut self.rules, rule)?)
     }
 
     // The rules in their order.
@@ -52,10 +50,8 @@ impl RuleList {
 pub fn line_of(rules: &[Rule], number: u16) -> Option<u64>
     ensures { MatchOption result (Unused number rules.now) (λ l. Used number l rules.now) }
 {
-    for rule in rules {
-        if rule.number == number {
-            return Some(rule.line);
-        }
-    }
-    None
+    rules
+        .iter()
+        .find(|rule| rule.number == number)
+        .map(|rule| rule.line)
 }

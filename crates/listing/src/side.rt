@@ -8,7 +8,7 @@ use codes::code::FieldCode;
 use codes::span::Span;
 
 // Why a word is no side of a field.
-#[derive(Clone, Copy)]
+#[derive(Clone, Copy, PartialEq, Eq, Debug)]
 pub enum SideFault {
     Unread,
     // an end of L..H is above the field's highest value
@@ -21,36 +21,32 @@ pub fn read_side(word: &str, highest: u16) -> Result<Option<Span>, SideFault> {
     if word == "any" {
         return Ok(None);
     }
-    if let Some((low, high)) = word.split_once("..") {
-        return read_range(low, high, highest);
-    }
-    match word.split_once('+') {
-        Some((low, len)) => read_run(low, len),
-        None => read_run(word, "1"),
-    }
+    let span = if let Some((low, high)) = word.split_once("..") {
+        read_range(low, high, highest)
+    } else {
+        let (low, len) = word.split_once('+').unwrap_or((word, "1"));
+        read_run(low, len)
+    };
+    span.map(Some)
 }
 
-// `L..H`, cut in two.
-fn read_range(low: &str, high: &str, highest: u16) -> Result<Option<Span>, SideFault>
+// `L..H`, cut in two. The ends and the highest value go together twice, as text here and as numbers below: a struct
+// of them would be made and taken apart once each.
+fn read_range(low: &str, high: &str, highest: u16) -> Result<Span, SideFault>
     ensures { RangeRead highest low.now high.now result }
 {
-    let (Some(low), Some(high)) = (number(low), number(high)) else {
-        return Err(SideFault::Unread);
-    };
-    match span_between(low, high, highest) {
-        Some(span) => Ok(Some(span)),
-        None => Err(SideFault::Leaves),
-    }
+    let low = number(low).ok_or(SideFault::Unread)?;
+    let high = number(high).ok_or(SideFault::Unread)?;
+    span_between(low, high, highest).ok_or(SideFault::Leaves)
 }
 
 // `L+N`, cut in two.
-fn read_run(low: &str, len: &str) -> Result<Option<Span>, SideFault>
+fn read_run(low: &str, len: &str) -> Result<Span, SideFault>
     ensures { RunRead low.now len.now result }
 {
-    match (number(low), length(len)) {
-        (Some(low), Some(len)) => Ok(Some(Span { low, len })),
-        _ => Err(SideFault::Unread),
-    }
+    let low = number(low).ok_or(SideFault::Unread)?;
+    let len = length(len).ok_or(SideFault::Unread)?;
+    Ok(Span { low, len })
 }
 
 // The values from `low` to `high` of a field, both included; where `high` is the lower one, on past the field's
@@ -62,13 +58,13 @@ pub fn span_between(low: u16, high: u16, highest: u16) -> Option<Span>
         return None;
     }
     let end = if low <= high {
-        high as u32
+        u32::from(high)
     } else {
-        high as u32 + highest as u32 + 1
+        u32::from(high) + u32::from(highest) + 1
     };
     Some(Span {
         low,
-        len: end + 1 - low as u32,
+        len: end + 1 - u32::from(low),
     })
 }
 
@@ -76,7 +72,7 @@ pub fn span_between(low: u16, high: u16, highest: u16) -> Option<Span>
 pub fn highest_at<F: FieldCode>(code: &F, field: usize) -> u16
     ensures { result ≡ top_at (F.FieldCode.meaning code.now).fields field }
 {
-    if field < code.fields() as usize {
+    if field < usize::from(code.fields()) {
         code.width(field as u16).highest()
     } else {
         65535
@@ -84,8 +80,6 @@ pub fn highest_at<F: FieldCode>(code: &F, field: usize) -> u16
 }
 
 // The span from L to H holds what its line says.
-pub fn between_law() -> u8
+pub fn between_law()
     ensures { BetweenLaw }
-{
-    0
-}
+{}

@@ -6,25 +6,9 @@ use listing::rule::Rule;
 use listing::telegram::Telegram;
 use std::fmt;
 use ternary::refusal::Refusal;
-use ternary::word::Word;
+use ternary::text::Digits;
 
-// Digit 0 of a word and as many digits behind it as a code has, as one string of 0, 1 and *.
-#[derive(Drop)]
-pub struct Digits {
-    pub word: Word,
-    pub size: u8,
-}
-
-impl fmt::Display for Digits {
-    fn fmt<W: fmt::Write>(&self, f: &mut fmt::Formatter<W>) -> fmt::Result {
-        for i in 0..=self.size {
-            f.write_char(self.word.get(i).symbol())?;
-        }
-        Ok(())
-    }
-}
-
-// What a refusal's number stands for.
+// What a refusal's number stands for: one text a case, and only in the lines that are printed here.
 pub fn reason(refusal: Refusal) -> &'static str
     ensures { result.now ≡ reason_text refusal }
 {
@@ -48,13 +32,14 @@ impl fmt::Display for Refused {
     ghost output = { λ x. Some (refused_text x.0) };
 
     fn fmt<W: fmt::Write>(&self, f: &mut fmt::Formatter<W>) -> fmt::Result {
-        let number = self.0.number();
-        let place = self.0.place();
-        let layer = self.0.layer().number();
-        let cause = reason(self.0);
+        let Refused(refusal) = self;
         write!(
             f,
-            "refused by {number}, place {place}, layer {layer}: {cause}"
+            "refused by {}, place {}, layer {}: {}",
+            refusal.number(),
+            refusal.place(),
+            refusal.layer().number(),
+            reason(*refusal)
         )
     }
 }
@@ -64,16 +49,18 @@ impl fmt::Display for Refused {
 pub struct PlacedRule<'a> {
     pub row: u16,
     pub rule: &'a Rule,
+    // digit 0 of its word, and the code's digits behind it
     pub digits: Digits,
 }
 
-impl<'a> fmt::Display for PlacedRule<'a> {
+impl fmt::Display for PlacedRule<'_> {
     fn fmt<W: fmt::Write>(&self, f: &mut fmt::Formatter<W>) -> fmt::Result {
-        let row = self.row;
-        let number = self.rule.number;
-        let class = self.rule.class;
-        let digits = &self.digits;
-        write!(f, "row {row} rule {number} class {class} digits {digits}")
+        let PlacedRule { row, rule, digits } = self;
+        write!(
+            f,
+            "row {row} rule {} class {} digits {digits}",
+            rule.number, rule.class
+        )
     }
 }
 
@@ -84,14 +71,18 @@ pub struct RefusedRule<'a> {
     pub refusal: Refusal,
 }
 
-impl<'a> fmt::Display for RefusedRule<'a> {
+impl fmt::Display for RefusedRule<'_> {
     ghost output = { λ x. Some (codes "line " ++ (decimal x.rule.now.line ++ (codes ": rule " ++ (decimal x.rule.now.number ++ (codes " " ++ refused_text x.refusal))))) };
 
     fn fmt<W: fmt::Write>(&self, f: &mut fmt::Formatter<W>) -> fmt::Result {
-        let line = self.rule.line;
-        let number = self.rule.number;
-        let refused = Refused(self.refusal);
-        write!(f, "line {line}: rule {number} {refused}")
+        let RefusedRule { rule, refusal } = self;
+        write!(
+            f,
+            "line {}: rule {} {}",
+            rule.line,
+            rule.number,
+            Refused(*refusal)
+        )
     }
 }
 
@@ -102,17 +93,18 @@ pub struct Answered<'a> {
     pub answer: Result<Option<(u16, u16)>, Refusal>,
 }
 
-impl<'a> fmt::Display for Answered<'a> {
+impl fmt::Display for Answered<'_> {
     fn fmt<W: fmt::Write>(&self, f: &mut fmt::Formatter<W>) -> fmt::Result {
-        let telegram = self.telegram;
-        let line = telegram.line;
-        match self.answer {
+        let Answered { telegram, answer } = self;
+        match answer {
             Ok(Some((number, class))) => write!(f, "{telegram} class {class} rule {number}"),
             Ok(None) => write!(f, "{telegram} none"),
-            Err(refusal) => {
-                let refused = Refused(refusal);
-                write!(f, "line {line}: {telegram} {refused}")
-            }
+            Err(refusal) => write!(
+                f,
+                "line {}: {telegram} {}",
+                telegram.line,
+                Refused(*refusal)
+            ),
         }
     }
 }

@@ -30,18 +30,15 @@ impl Question {
         let Some((first, rest)) = read_setting(words.as_slice()) else {
             return Ok(None);
         };
-        let (second, rest) = match read_setting(rest) {
-            Some((second, rest)) => (Some(second), rest),
-            None => (None, rest),
-        };
-        match read_asked(heap, rest)? {
-            Some(asked) => Ok(Some(Question {
-                first,
-                second,
-                asked,
-            })),
-            None => Ok(None),
-        }
+        let (second, rest) = read_setting(rest).map_or(
+            (None, rest),
+            |(second, rest)| (Some(second), rest),
+        );
+        Ok(read_asked(heap, rest)?.map(|asked| Question {
+            first,
+            second,
+            asked,
+        }))
     }
 }
 
@@ -68,38 +65,19 @@ fn read_setting<'a>(words: &'a [&'a str]) -> Option<(Setting, &'a [&'a str])> {
 // What the words behind the settings ask for.
 fn read_asked(heap: Global, words: &[&str]) -> Result<Option<Asked>, AllocError> {
     match words {
-        ["value", rest @ ..] => match values(heap, rest)? {
-            Some(values) => Ok(Some(Asked::Values(values))),
-            None => Ok(None),
-        },
-        ["box", rest @ ..] => match sides(heap, rest)? {
-            Some(sides) => Ok(Some(Asked::Box(sides))),
-            None => Ok(None),
-        },
+        ["value", rest @ ..] => {
+            let values: Option<Vec<u16>> = rest.iter().map(|word| word.parse().ok()).collect(heap)?;
+            Ok(values.map(Asked::Values))
+        }
+        ["box", rest @ ..] => {
+            let sides: Option<Vec<Option<Span>>> = rest
+                .iter()
+                .map(|word| side(word))
+                .collect(heap)?;
+            Ok(sides.map(Asked::Box))
+        }
         _ => Ok(None),
     }
-}
-
-fn values(heap: Global, words: &[&str]) -> Result<Option<Vec<u16>>, AllocError> {
-    let mut all = Vec::new(heap);
-    for word in words {
-        match word.parse::<u16>() {
-            Ok(value) => all.push(value)?,
-            Err(_) => return Ok(None),
-        }
-    }
-    Ok(Some(all))
-}
-
-fn sides(heap: Global, words: &[&str]) -> Result<Option<Vec<Option<Span>>>, AllocError> {
-    let mut all = Vec::new(heap);
-    for word in words {
-        match side(word) {
-            Some(side) => all.push(side)?,
-            None => return Ok(None),
-        }
-    }
-    Ok(Some(all))
 }
 
 // `any`, or a low end and a length as `4+2`.
@@ -108,8 +86,7 @@ fn side(word: &str) -> Option<Option<Span>> {
         return Some(None);
     }
     let (low, len) = word.split_once('+')?;
-    match (low.parse::<u16>(), len.parse::<u32>()) {
-        (Ok(low), Ok(len)) => Some(Some(Span { low, len })),
-        _ => None,
-    }
+    let low = low.parse::<u16>().ok()?;
+    let len = len.parse::<u32>().ok()?;
+    Some(Some(Span { low, len }))
 }

@@ -2,6 +2,7 @@
 ghost use Rattle.std.specs.Prelude.{◌≡◌, IfOk, MatchResult};
 ghost use Rattle.reading.specs.Lines.{FromLine};
 
+use crate::rows::RowCount;
 use codes::code::FieldCode;
 use codes::span::Span;
 use listing::fault::{Cause, Fault};
@@ -15,8 +16,7 @@ use std::str::SplitWhitespace;
 #[derive(Drop)]
 pub enum Line {
     Blank,
-    // how many rows the chip has, 1 to 256
-    Rows(u16),
+    Rows(RowCount),
     Rule(Rule),
     Telegram(Telegram),
 }
@@ -30,93 +30,92 @@ pub fn parse_line<F: FieldCode>(
 ) -> Result<Line, Fault>
     ensures { MatchResult result (FromLine line) (λ fault. fault.line ≡ line) }
 {
-    match read_words(heap, code, line, before_comment(text).split_whitespace()) {
-        Ok(held) => Ok(held),
-        Err(cause) => Err(Fault { line, cause }),
-    }
-}
-
-fn read_words<F: FieldCode>(
-    heap: Global,
-    code: &F,
-    line: u64,
-    mut words: SplitWhitespace<'_>,
-) -> Result<Line, Cause>
-    ensures { IfOk result (FromLine line) }
-{
-    match words.next() {
-        None => Ok(Line::Blank),
-        Some("rows") => read_rows(line, words),
-        Some("rule") => read_rule(heap, code, line, words),
-        Some("telegram") => read_telegram(heap, line, words),
-        Some(word) => Err(Cause::UnknownWord(String::from_str(heap, word)?)),
-    }
+    let words = before_comment(text).split_whitespace();
+    let reader = LineReader {
+        heap,
+        code,
+        line,
+        words,
+    };
+    reader.read().map_err(|cause| Fault { line, cause })
 }
 
 // A `#` begins a comment.
 fn before_comment(text: &str) -> &str {
-    match text.split_once('#') {
-        Some((front, _)) => front,
-        None => text,
-    }
+    text.split_once('#').map_or(text, |(front, _)| front)
 }
 
-fn read_rows(line: u64, mut words: SplitWhitespace<'_>) -> Result<Line, Cause>
-    ensures { IfOk result (FromLine line) }
-{
-    let (Some(word), None) = (words.next(), words.next()) else {
-        return Err(Cause::BadRows);
-    };
-    match number(word) {
-        Some(n) => {
-            if n >= 1 && n <= 256 {
-                Ok(Line::Rows(n))
-            } else {
-                Err(Cause::BadRows)
-            }
-        }
-        None => Err(Cause::BadRows),
-    }
-}
-
-fn read_rule<F: FieldCode>(
+// What one line is read with.
+#[derive(Drop)]
+struct LineReader<'a, F> {
     heap: Global,
-    code: &F,
+    // tells the fields that a rule's sides are of
+    code: &'a F,
+    // the line's number
     line: u64,
-    mut words: SplitWhitespace<'_>,
-) -> Result<Line, Cause>
-    ensures { IfOk result (FromLine line) }
-{
-    let number = next_number(heap, &mut words)?;
-    let rank = next_number(heap, &mut words)?;
-    let class = next_number(heap, &mut words)?;
-    let sides = read_sides(heap, code, words)?;
-    Ok(Line::Rule(Rule {
-        number,
-        rank,
-        class,
-        sides,
-        line,
-    }))
+    // those that are not read yet
+    words: SplitWhitespace<'a>,
 }
 
-fn read_telegram(heap: Global, line: u64, words: SplitWhitespace<'_>) -> Result<Line, Cause>
-    ensures { IfOk result (FromLine line) }
-{
-    let mut values = Vec::new(heap);
-    for word in words {
-        values.push(read_number(heap, word)?)?;
+impl<'a, F: FieldCode> LineReader<'a, F> {
+    fn read(mut self) -> Result<Line, Cause>
+        ensures { IfOk result (FromLine self.entry.line) }
+    {
+        match self.words.next() {
+            None => Ok(Line::Blank),
+            Some("rows") => Ok(Line::Rows(self.rows()?)),
+            Some("rule") => Ok(Line::Rule(self.rule()?)),
+            Some("telegram") => Ok(Line::Telegram(self.telegram()?)),
+            Some(word) => Err(Cause::UnknownWord(String::from_str(self.heap, word)?)),
+        }
     }
-    Ok(Line::Telegram(Telegram { values, line }))
-}
 
-fn next_number(heap: Global, words: &mut SplitWhitespace<'_>) -> Result<u16, Cause> {
-    match words.next() {
-        Some(word) => read_number(heap, word),
-        None => Err(Cause::RuleShort),
+    fn rows(mut self) -> Result<RowCount, Cause> {
+        let (Some(word), None) = (self.words.next(), self.words.next()) else {
+            return Err(Cause::BadRows);
+        };
+        RowCount::try_from(number(word).ok_or(Cause::BadRows)?)
+    }
+
+    fn rule(mut self) -> Result<Rule, Cause>
+        ensures { IfOk result (λ rule. rule.line ≡ self.entry.line) }
+    {
+        Ok(Rule {
+            line: self.line,
+            number: self.next_number()?,
+            rank: self.next_number()?,
+            class: self.next_number()?,
+            sides: self.sides()?,
+        })
+    }
+
+    fn telegram(self) -> Result<Telegram, Cause>
+        ensures { IfOk result (λ telegram. telegram.line ≡ self.entry.line) }
+    {
+        Ok(Telegram {
+            line: self.line,
+            values: self
+                .words
+                .map(|word| read_number(self.heap, word))
+                .try_collect(self.heap)?,
+        })
+    }
+
+    fn next_number(&mut self) -> Result<u16, Cause> {
+        let word = self.words.next().ok_or(Cause::RuleShort)?;
+        read_number(self.heap, word)
+    }
+
+    fn sides(self) -> Result<Vec<Option<Span>>, Cause> {
+        self.words
+            .enumerate()
+            .map(|(field, word)| side(self.heap, word, highest_at(self.code, field)))
+            .try_collect(self.heap)
     }
 }
 
+// No `ok_or`: the word is copied for a fault alone, and the copy itself can fail. Like `side`, it takes the heap and no
+// reader, since the chains above have moved the reader's words.
 fn read_number(heap: Global, word: &str) -> Result<u16, Cause> {
     match number(word) {
         Some(n) => Ok(n),
@@ -124,26 +123,13 @@ fn read_number(heap: Global, word: &str) -> Result<u16, Cause> {
     }
 }
 
-fn read_sides<F: FieldCode>(
-    heap: Global,
-    code: &F,
-    words: SplitWhitespace<'_>,
-) -> Result<Vec<Option<Span>>, Cause> {
-    let mut sides = Vec::new(heap);
-    for word in words {
-        let highest = highest_at(code, sides.len());
-        match read_side(word, highest) {
-            Ok(side) => sides.push(side)?,
-            Err(fault) => return Err(side_cause(heap, word, highest, fault)),
-        }
-    }
-    Ok(sides)
-}
-
-fn side_cause(heap: Global, word: &str, highest: u16, fault: SideFault) -> Cause {
-    match (String::from_str(heap, word), fault) {
-        (Ok(word), SideFault::Unread) => Cause::NotASide(word),
-        (Ok(side), SideFault::Leaves) => Cause::LeavesField { side, highest },
-        (Err(_), _) => Cause::NoMemory,
-    }
+// A side of a box from its word, or what is wrong with it.
+fn side(heap: Global, word: &str, highest: u16) -> Result<Option<Span>, Cause> {
+    read_side(word, highest).or_else(|fault| {
+        let side = String::from_str(heap, word)?;
+        Err(match fault {
+            SideFault::Unread => Cause::NotASide(side),
+            SideFault::Leaves => Cause::LeavesField { side, highest },
+        })
+    })
 }

@@ -11,7 +11,8 @@ use Rattle.ternary.specs.Refusals.{Report, told}
 use Rattle.codes.specs.declared.span.Span.{Span}
 use Rattle.codes.specs.Meaning.{Field, Meaning, in_box}
 use Rattle.codes.specs.Coding.{values_refusal, box_refusal}
-use Rattle.chips.specs.Chip.{Row, empty_row, full_row, put_answer, first_match}
+use Rattle.rules.specs.declared.rule.RuleRow.{RuleRow}
+use Rattle.chips.specs.Chip.{Holding, empty_row, full_row, put_answer, first_match}
 
 -- a rule as its row holds it: a number and a class of 16 bits, and a box
 pub record Rule : Type 0 where
@@ -21,6 +22,10 @@ pub record Rule : Type 0 where
 
 abbrev pub rule : ℕ → ℕ → List (Option Span) → Rule
 rule n c bs = record { number = n; class = c; sides = bs }
+
+-- what the program's rule is
+abbrev pub as_rule : RuleRow → Rule
+as_rule r = rule r.number r.class r.sides.now
 
 -- What a rule list, in its order, gives a telegram: number and class of the first rule whose box holds it, or none.
 abbrev pub list_gives : List Field → List Rule → List ℕ → Option (ℕ × ℕ)
@@ -34,12 +39,17 @@ tag_of number class = number * 65536 + class
 abbrev pub number_and_class : ℕ → ℕ × ℕ
 number_and_class t = (t / 65536, t % 65536)
 
+-- a tag tells the number and the class that it was made of, and is made of those that it tells
+pub record TagLaw : Type 0 where
+  pub tells : (n c : ℕ) → c < 65536 → number_and_class (tag_of n c) ≡ (n, c)
+  pub made : (t : ℕ) → tag_of (t / 65536) (t % 65536) ≡ t
+
 -- the 256 digits of a rule's row or of a telegram's key: digit 0 is 0, then the code's digits, then *
 abbrev pub row_digits : List Digit → List Digit
 row_digits ds = (Zero ∷ ds) ++ replicate (255 - length ds) Any
 
 -- the row of a rule
-abbrev pub row_of : Meaning → Rule → Row
+abbrev pub row_of : Meaning → Rule → Holding
 row_of m r = full_row (row_digits (m.box_word r.sides)) (tag_of r.number r.class)
 
 -- a word is made, or refused as the first line that fits says
@@ -53,28 +63,28 @@ unless_refused (Some e) r = Err e
 unless_refused None r = r
 
 -- what placing a rule in a row answers: the box's refusal, or else that of a row that is not on the chip
-abbrev pub place_answer : Meaning → List Row → ℕ → List (Option Span) → Result Unit Report
+abbrev pub place_answer : Meaning → List Holding → ℕ → List (Option Span) → Result Unit Report
 place_answer m rows row bs = unless_refused (box_refusal m bs) (put_answer rows row)
 
 -- the rows after it: as they were where the box is refused, else with the rule's row put in its place
-abbrev pub placed_rows : Option Report → List Row → List Row → List Row
+abbrev pub placed_rows : Option Report → List Holding → List Holding → List Holding
 placed_rows (Some e) before after = before
 placed_rows None before after = after
 
 -- what classing a telegram answers: the refusal, or number and class of the first matching row's tag, or none
-abbrev pub class_answer : Meaning → List Row → List ℕ → Result (Option (ℕ × ℕ)) Report
+abbrev pub class_answer : Meaning → List Holding → List ℕ → Result (Option (ℕ × ℕ)) Report
 class_answer m rows vs =
     unless_refused (values_refusal m vs) (Ok (option_map (λ (hit : ℕ × ℕ). number_and_class hit.1) (first_match rows (row_digits (m.value_word vs)))))
 
 -- the chip's rows hold a rule list: its rules from row 0 up in the list's order, and empty rows behind them
-pub record Held (m : Meaning) (rs : List Rule) (rows : List Row) : Type 0 where
+pub record Held (m : Meaning) (rs : List Rule) (rows : List Holding) : Type 0 where
   pub taken : AllByRecursion (λ r. box_refusal m r.sides ≡ None) rs
   pub plain : AllByRecursion (λ r. r.class < 65536) rs
   pub free : ℕ
   pub are : rows ≡ map (row_of m) rs ++ replicate free empty_row
 
 -- what placing a rule in a row promises, of the rows before and after it and of its answer
-pub record Placing (m : Meaning) (row : ℕ) (r : Rule) (before after : List Row) (answer : Result Unit Report) : Type 0 where
+pub record Placing (m : Meaning) (row : ℕ) (r : Rule) (before after : List Holding) (answer : Result Unit Report) : Type 0 where
   -- refused as the first line that fits says
   pub answers : answer ≡ place_answer m before row r.sides
   -- accepted, it changes that row and no other; refused, none
@@ -83,7 +93,7 @@ pub record Placing (m : Meaning) (row : ℕ) (r : Rule) (before after : List Row
   pub holds : (rs : List Rule) → Held m rs before → row ≡ length rs → answer ≡ Ok tt → Held m (rs ++ r ∷ []) after
 
 -- what classing a telegram promises, of the chip's rows and of its answer
-pub record Classing (m : Meaning) (rows : List Row) (vs : List ℕ) (answer : Result (Option (ℕ × ℕ)) Report) : Type 0 where
+pub record Classing (m : Meaning) (rows : List Holding) (vs : List ℕ) (answer : Result (Option (ℕ × ℕ)) Report) : Type 0 where
   -- refused as the first line that fits says, or else the first matching row's
   pub answers : answer ≡ class_answer m rows vs
   -- where the rows hold a list, an accepted telegram gets what the list gives

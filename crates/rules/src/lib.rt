@@ -2,6 +2,8 @@
 // answers what the rule list gives. docs/chips.md has the layout of a row.
 #![tactic(auto)]
 
+pub mod board;
 pub mod place;
 pub mod row;
+pub mod rule;
 pub mod tag;

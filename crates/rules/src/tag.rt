@@ -1,15 +1,33 @@
 // The tag of a rule's row: the rule's number in the top 16 bits and its class below.
 ghost use Rattle.std.specs.Prelude.{◌≡◌};
-ghost use Rattle.rules.specs.Rules.{tag_of, number_and_class};
+ghost use Rattle.rules.specs.Rules.{tag_of, number_and_class, TagLaw};
 
-pub fn tag_of(number: u16, class: u16) -> u32
-    ensures { result ≡ tag_of number class }
-{
-    number as u32 * 65536 + class as u32
+#[derive(Clone, Copy, PartialEq, Eq, Debug)]
+pub struct Tag {
+    pub number: u16,
+    pub class: u16,
 }
 
-pub fn number_and_class(tag: u32) -> (u16, u16)
-    ensures { result ≡ number_and_class tag }
-{
-    ((tag / 65536) as u16, (tag % 65536) as u16)
+impl From<Tag> for u32 {
+    ghost from_gives = { λ tag r. r ≡ tag_of tag.number tag.class };
+
+    fn from(tag: Tag) -> u32 {
+        u32::from(tag.number) * 65536 + u32::from(tag.class)
+    }
 }
+
+impl From<u32> for Tag {
+    ghost from_gives = { λ n r. (r.number, r.class) ≡ number_and_class n };
+
+    fn from(n: u32) -> Tag {
+        Tag {
+            number: (n / 65536) as u16,
+            class: (n % 65536) as u16,
+        }
+    }
+}
+
+// A tag tells the number and the class that it was made of, and every tag is made of those that it tells.
+pub fn tag_law()
+    ensures { TagLaw }
+{}

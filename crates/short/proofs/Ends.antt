@@ -1,15 +1,23 @@
 -- The values of a span of length h agree on a leading digit exactly when its first and its last value do, so that a program
 -- compares two values and not h.
-use Rattle.std.proofs.Common.{◌≡◌, ℕ, ◌+◌, ◌-◌, ◌*◌, ◌/◌, ◌%◌, ◌^◌, ◌<◌, ◌≤◌, ◌⊎◌, sym, ap, ◌∙◌, subst, inl, inr, ⊎_elim, mod-lt, add-mul, div-add-mod', arith, pow_pos, pow_mono}
+use Rattle.std.proofs.Common.{◌≡◌, ℕ, ◌+◌, ◌-◌, ◌*◌, ◌/◌, ◌%◌, ◌^◌, ◌<◌, ◌≤◌, ◌⊎◌, Bool, slice_index_or, refl, sym, ap, ap₂, ◌∙◌, subst, inl, inr, ⊎_elim, mod-lt, add-mul, div-add-mod', arith, pow_pos, pow_mono}
 use mathlib.Core.Bool.{beq}
-use Rattle.std.proofs.lemmas.Bool.{cases_eq, cases_lt}
+use Rattle.std.specs.Cmp.{booleans_Decides}
+use Rattle.std.proofs.ByRecursion.{All-get_or}
+use Rattle.std.proofs.lemmas.Bool.{cases_eq}
 use Rattle.std.proofs.lemmas.Bool.Decides.{same_from_decides}
 use Rattle.codes.proofs.Offsets.{offset_above, offset_below}
 use Rattle.codes.proofs.Powers.{even_power, power_parts}
-use Rattle.short.specs.Short.{lead, agreeing}
+use Rattle.ternary.specs.declared.digit.Digit.TheVariants.{Any}
+use Rattle.ternary.specs.Words.{digit_of, over}
+use Rattle.short.specs.declared.column.Column.TheVariants.{Lead}
+use Rattle.short.specs.Short.{lead, columns, word_size, answer_of, agreeing, stays, ending, span_word}
+use Rattle.short.specs.Digits.{full_digit, full_span, ends_stay, ends_digit}
+use Rattle.short.specs.Columns.{columns_length, all_columns}
+use Rattle.short.specs.Lawful.{ending_within, span_at}
 use Rattle.short.specs.Gray.{gray, gray_high, gray_from_lead, lead_from_gray, Next}
 use Rattle.short.specs.Circle.{gap, lay, up, down, forth, Way, here, next, round}
-use Rattle.short.specs.Full.{beq_true, beq_from, agreeing_at, agreeing_from, middle_from_gray, gray_from_middle, next_same, way_block, way_start, walk, walk_keeps, block_within, value_within}
+use Rattle.short.specs.Full.{agreeing_at, agreeing_from, middle_from_gray, gray_from_middle, next_same, way_block, way_start, walk, walk_keeps, block_within, value_within}
 
 -- s and the last value v of the span, h − 1 past it, in a circle of N = B * h numbers, where B and h are even
 module _ (h g B C N s v : ℕ) (hp : 0 < g) (eh : h ≡ g * 2) (even : B ≡ C * 2) (e_n : N ≡ B * h) (hs : s < N) (hv : v < N) (last : gap N s v ≡ h - 1) (way : Way h B s v) where
@@ -59,39 +67,16 @@ module _ (h g B C N s v : ℕ) (hp : 0 < g) (eh : h ≡ g * 2) (even : B ≡ C *
       let p = positive in
       let hi : s % h < h = mod-lt s p in
       let hr : v % h < h = mod-lt v p in
-      ⊎_elim
-      (λ (z : s % h ≡ 0).
-      let x = end_whole z in
-      let x0 = x.0 in let x1 = x.1 in
-      let a = down h s g p (omega arith) (omega arith) in
-      let b = up h v g p (omega arith) in
-      absurd (omega arith))
-      (λ ne.
-      let x = end_inside ne in
-      let x1 = x.1 in
-      ⊎_elim
-      (λ (lt : s % h < g).
-      let a = down h s g p lt (omega arith) in
-      let b = down h v g p (omega arith) (omega arith) in
-      ⊎_elim (λ (y : v / h ≡ s / h + 1). absurd (omega arith))
-      (λ (y : (s / h + 1 ≡ B) × (v / h ≡ 0)). let y0 = y.0 in let y1 = y.1 in absurd (omega arith)) x.0)
-      (λ (ge : g ≤ s % h).
-      ⊎_elim (λ q. q)
-      (λ nq.
-      let a = up h s g p ge in
-      let b = up h v g p (omega (arith, nq)) in
-      ⊎_elim (λ (y : v / h ≡ s / h + 1). absurd (omega arith))
-      (λ (y : (s / h + 1 ≡ B) × (v / h ≡ 0)). let y0 = y.0 in let y1 = y.1 in absurd (omega arith)) x.0)
-      (cases_eq (s % h) g))
-      (cases_lt (s % h) g))
-      (cases_eq (s % h) 0)
+      let w = end_whole in let i = end_inside in
+      let su = up h s g p in let sd = down h s g p in let vu = up h v g p in let vd = down h v g p in
+      grind arith
 
   -- every value of the span lies in the block of s or in that of the last value
   pub block_of_end : (u : ℕ) → u / h < B → v / h < B → Way h B s u → (u / h ≡ s / h) ⊎ (u / h ≡ v / h)
   block_of_end u hu hl on =
-      ⊎_elim (λ (z : s % h ≡ 0). inl (way_start z on))
-      (λ ne. ⊎_elim (λ e. inl e) (λ n. inr (next_same B (s / h) (u / h) (v / h) hu hl n (end_inside ne).0)) (way_block on))
-      (cases_eq (s % h) 0)
+      let e = λ (ne : s % h ≡ 0 → ⊥) (n : Next B (s / h) (u / h)). next_same B (s / h) (u / h) (v / h) hu hl n (end_inside ne).0 in
+      let b = way_block on in let z = λ (z : s % h ≡ 0). way_start z on in
+      grind arith
 
 module _ (w k : ℕ) (lo : 1 ≤ k) (hi : k < w) (s : ℕ) (hs : s < 2 ^ w) where
   eh : 2 ^ k ≡ 2 ^ (k - 1) * 2
@@ -158,4 +143,21 @@ module _ (w k : ℕ) (lo : 1 ≤ k) (hi : k < w) (s : ℕ) (hs : s < 2 ^ w) wher
         (λ e. agreeing_at (2 ^ w) s b (2 ^ k) e (2 ^ k - 1) (omega (arith, pow_pos k))),
         (λ e. agreeing_from (2 ^ w) s b (2 ^ k) (all_from_ends b l e)),
       )
-      (beq_true (lead z b) (lead s b), beq_from (lead z b) (lead s b))
+      (booleans_Decides (lead z b) (lead s b))
+
+  -- a digit of the span of length h from s is what its first and its last value tell
+  pub digit_from_ends : (j : ℕ) → j < word_size w k
+      → full_digit w k s (slice_index_or (columns w k) j (Lead 0)) ≡ ends_digit k (full_span w k s) (slice_index_or (columns w k) j (Lead 0))
+  digit_from_ends j h =
+      ap (λ (b : Bool). digit_of b (answer_of k s (slice_index_or (columns w k) j (Lead 0))))
+      (All-get_or (λ c. stays w k s c ≡ ends_stay k (full_span w k s) c) (columns w k) j (Lead 0) (omega (arith, columns_length w k lo hi))
+      (all_columns w k lo hi (λ c. stays w k s c ≡ ends_stay k (full_span w k s) c) (λ b l u. agreeing_ends b l) (λ i l u ne. refl)))
+
+-- a digit of the word of a span is joined from what the ends of the two spans of length h tell
+pub span_from_ends : (w k : ℕ) (lo : 1 ≤ k) (hi : k < w) (s n : ℕ) → s < 2 ^ w → 1 ≤ n → n ≤ 2 ^ k → (j : ℕ) → j < word_size w k
+    → slice_index_or (span_word w k s n) j Any
+    ≡ over (ends_digit k (full_span w k s) (slice_index_or (columns w k) j (Lead 0)))
+    (ends_digit k (full_span w k (ending w k s n)) (slice_index_or (columns w k) j (Lead 0)))
+span_from_ends w k lo hi s n hs least most j h =
+    span_at w k lo hi s n hs least most j h
+    ∙ ap₂ over (digit_from_ends w k lo hi s hs j h) (digit_from_ends w k lo hi (ending w k s n) (ending_within w k lo hi s n hs least most) j h)

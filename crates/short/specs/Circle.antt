@@ -6,7 +6,8 @@ use Rattle.std.proofs.Math.Nat.{add-mul, add-mod_right, add-div_right}
 use native.Mathlib.Omega.{arith}
 use Rattle.std.proofs.Math.Arith.{digits_div, digits_mod}
 use Rattle.std.proofs.lemmas.Nat.{div_below}
-use Rattle.std.proofs.lemmas.Bool.{cases_eq, cases_lt}
+use Rattle.std.proofs.lemmas.Bool.Decides.{nat_tests}
+use Rattle.std.proofs.lemmas.Bool.{cases_lt}
 use Rattle.codes.proofs.Offsets.{offset_above, offset_below}
 use Rattle.short.specs.Short.{layer}
 use Rattle.short.specs.Floors.{layer_from, layer_under}
@@ -26,18 +27,13 @@ lay h v i = (v + 2 * h - i) / h
 layer_lay : (h v i : ℕ) → i < h → layer h v i ≡ (lay h v i % 2 == 1)
 unfolding lay
 layer_lay h v i lt =
-    ⊎_elim
-    (λ (u : v < i).
-    layer_under h v i u lt
-    ∙ sym (ap (λ (n : ℕ). nat_eq (n % 2) 1) (div_is (v + 2 * h - i) 1 (v + h - i) h (omega arith) (omega arith))))
-    (λ (f : i ≤ v).
-    layer_from h v i f
-    ∙ ap (λ (n : ℕ). nat_eq n 1)
-    (let two : (v + 2 * h - i) / h ≡ (v - i) / h + 2 =
-    ap (λ (n : ℕ). n / h) (let e : v + 2 * h - i ≡ (v - i + h) + h = omega arith in e) ∙ add-div_right (v - i + h) (let z : 0 < h = omega arith in z)
-    ∙ ap (λ (n : ℕ). n + 1) (add-div_right (v - i) (let z : 0 < h = omega arith in z)) ∙ (let z : (v - i) / h + 1 + 1 ≡ (v - i) / h + 2 = omega arith in z) in
-    omega arith))
-    (cases_lt v i)
+    let hp : 0 < h = omega arith in
+    let u = layer_under h v i in let f = layer_from h v i in
+    let one : v < i → (v + 2 * h - i) / h ≡ 1 = λ l. div_is (v + 2 * h - i) 1 (v + h - i) h (omega arith) (omega arith) in
+    let two : i ≤ v → (v + 2 * h - i) / h ≡ (v - i) / h + 2 = λ l.
+    ap (λ (n : ℕ). n / h) (let e : v + 2 * h - i ≡ (v - i + h) + h = omega arith in e) ∙ add-div_right (v - i + h) hp
+    ∙ ap (λ (n : ℕ). n + 1) (add-div_right (v - i) hp) ∙ (let z : (v - i) / h + 1 + 1 ≡ (v - i) / h + 2 = omega arith in z) in
+    grind (arith, nat_tests)
 
 pub lay_from_layer : (h v s i : ℕ) → i < h → layer h v i ≡ layer h s i → lay h v i % 2 ≡ lay h s i % 2
 lay_from_layer h v s i lt e =
@@ -68,25 +64,19 @@ module _ (h v i : ℕ) (hp : 0 < h) where
 -- the value that lies that far past s is v, and (s + t) mod N lies t past s
 pub back : (N s v : ℕ) → s < N → v < N → (s + gap N s v) % N ≡ v
 back N s v hs hv =
-    ⊎_elim
-    (λ (lt : v < s).
-    ap (λ (n : ℕ). (s + n) % N) (offset_below N s v lt hs) ∙ ap (λ (n : ℕ). n % N) (let z : s + (v + N - s) ≡ v + N = omega arith in z)
-    ∙ add-mod_right v N ∙ mod-eq_of_lt hv)
-    (λ (ge : s ≤ v).
-    ap (λ (n : ℕ). (s + n) % N) (offset_above N s v ge hv) ∙ ap (λ (n : ℕ). n % N) (let z : s + (v - s) ≡ v = omega arith in z) ∙ mod-eq_of_lt hv)
-    (cases_lt v s)
+    let a = offset_above N s v in let b = offset_below N s v in
+    let m = mod-eq_of_lt hv in let r = add-mod_right v N in
+    grind arith
 
 pub forth : (N s t : ℕ) → s < N → t < N → gap N s ((s + t) % N) ≡ t
 forth N s t hs ht =
-    ⊎_elim
-    (λ (below : s + t < N).
-    ap (gap N s) (mod-eq_of_lt below) ∙ offset_above N s (s + t) (omega arith) below ∙ (let z : s + t - s ≡ t = omega arith in z))
-    (λ (past : N ≤ s + t).
-    let e : (s + t) % N ≡ s + t - N =
+    let m = mod-lt (s + t) (let z : 0 < N = omega arith in z) in
+    let below = λ (l : s + t < N). mod-eq_of_lt l in
+    let past : N ≤ s + t → (s + t) % N ≡ s + t - N = λ l.
     ap (λ (n : ℕ). n % N) (let z : s + t ≡ (s + t - N) + N = omega arith in z) ∙ add-mod_right (s + t - N) N
     ∙ mod-eq_of_lt (let z : s + t - N < N = omega arith in z) in
-    ap (gap N s) e ∙ offset_below N s (s + t - N) (omega arith) hs ∙ (let z : s + t - N + N - s ≡ t = omega arith in z))
-    (cases_lt (s + t) N)
+    let a = offset_above N s ((s + t) % N) in let b = offset_below N s ((s + t) % N) in
+    grind arith
 
 -- the ways in which the numbers go on from s: in its block, in the next one, or past the end in the first of B blocks
 pub data Way (h B s v : ℕ) : Type 0 where
@@ -99,10 +89,7 @@ module _ (h B C N : ℕ) (hp : 0 < h) (even : B ≡ C * 2) (e_n : N ≡ B * h) w
   block_lt v lt = div_below v h B hp (subst (λ (n : ℕ). v < n) e_n lt)
 
   last : (q b j : ℕ) → q < b → b * h ≤ q * h + j → j < h + h → q + 1 ≡ b
-  last q b j lt le hj =
-      ⊎_elim (λ e. e)
-      (λ ne. let two : q + 2 ≤ b = omega (arith, ne) in let l = mul-le-mul_right h two in let d = add-mul q 2 h in absurd (omega arith))
-      (cases_eq (q + 1) b)
+  last q b j lt le hj = let l = λ (two : q + 2 ≤ b). mul-le-mul_right h two in let d = add-mul q 2 h in grind arith
 
   pub go : (s t : ℕ) → s < N → t < h → Way h B s ((s + t) % N)
   go s t hs ht =
@@ -155,34 +142,15 @@ module _ (h B C N : ℕ) (hp : 0 < h) (even : B ≡ C * 2) (e_n : N ≡ B * h) w
       let bs = div-add-mod' s h in
       let bv = div-add-mod' v h in
       let ls = up h s (s % h) hp (omega arith) in
+      let lu = up h v (s % h) hp in
+      let ld = down h v (s % h) hp in
       let d = add-mul (s / h) 1 h in
       let one : 1 * h ≡ h = omega arith in
-      ⊎_elim
-      (λ (same : v / h ≡ s / h).
-      let qh : v / h * h ≡ s / h * h = ap (λ (n : ℕ). n * h) same in
-      ⊎_elim
-      (λ (lt : v % h < s % h). let l = down h v (s % h) hp lt hi in absurd (omega arith))
-      (λ (ge : s % h ≤ v % h). let o = offset_above N s v (omega arith) hv in omega arith)
-      (cases_lt (v % h) (s % h)))
-      (λ way.
-      ⊎_elim
-      (λ (n : v / h ≡ s / h + 1).
-      let qh : v / h * h ≡ (s / h + 1) * h = ap (λ (n : ℕ). n * h) n in
-      ⊎_elim
-      (λ (lt : v % h < s % h). let o = offset_above N s v (omega arith) hv in omega arith)
-      (λ (ge : s % h ≤ v % h). let l = up h v (s % h) hp ge in absurd (omega arith))
-      (cases_lt (v % h) (s % h)))
-      (λ (n : (s / h + 1 ≡ B) × (v / h ≡ 0)).
-      let n0 = n.0 in
-      let n1 = n.1 in
-      let qh : v / h * h ≡ 0 * h = ap (λ (n : ℕ). n * h) n1 in
-      let sh : (s / h + 1) * h ≡ B * h = ap (λ (n : ℕ). n * h) n0 in
-      ⊎_elim
-      (λ (lt : v % h < s % h). let o = offset_below N s v (omega arith) hs in omega arith)
-      (λ (ge : s % h ≤ v % h). let l = up h v (s % h) hp ge in absurd (omega arith))
-      (cases_lt (v % h) (s % h)))
-      way)
-      blocks
+      let z : 0 * h ≡ 0 = omega arith in
+      let oa = offset_above N s v in
+      let ob = offset_below N s v in
+      let on = λ (x y : ℕ) (t : x ≡ y). ap (λ (n : ℕ). n * h) t in
+      grind (arith, on (v / h) (s / h), on (v / h) (s / h + 1), on (v / h) 0, on (s / h + 1) B)
 
   -- where s begins a block, the block is the span
   pub block_tells : (s v : ℕ) → v < N → s % h ≡ 0 → v / h ≡ s / h → gap N s v < h

@@ -7,7 +7,8 @@ use Rattle.std.proofs.lemmas.List.FromFn.{length-range_with_len, get_or-range_wi
 use Rattle.std.proofs.lemmas.List.Elements.{filter-append}
 use Rattle.std.proofs.ByRecursion.{All-get_or, All-append, All-map}
 use Rattle.std.proofs.lemmas.List.{length-append, length-map, get_or-map, get_or_append_left, get_or-append_right}
-use Rattle.std.proofs.lemmas.Bool.{eq-eqb, ne_eqb, not_from_true, not_from_false, cond-true, cond-false, cases_lt, lt-ltb, le-ltb}
+use Rattle.std.proofs.lemmas.Bool.Decides.{nat_tests}
+use Rattle.std.proofs.lemmas.Bool.{eq-eqb, ne_eqb, not_from_true, not_from_false, cond-false, cases_lt}
 use Rattle.codes.proofs.Powers.{even_power}
 use Rattle.short.specs.declared.column.Column.{Column}
 use Rattle.short.specs.declared.column.Column.TheVariants.{Lead, Layer}
@@ -22,8 +23,9 @@ counting_plus a (suc m) n =
 kept_all : (p : ℕ → Bool) (a n : ℕ) → ((i : ℕ) → a ≤ i → i < a + n → p i ≡ true) → filter p (range_with_len a n) ≡ range_with_len a n
 kept_all p a zero all = refl
 kept_all p a (suc n) all =
-    cond-true (p a) (a ∷ filter p (range_with_len (a + 1) n)) (filter p (range_with_len (a + 1) n)) (all a (omega arith) (omega arith))
-    ∙ ap (λ (xs : List ℕ). a ∷ xs) (kept_all p (a + 1) n (λ i lo hi. all i (omega arith) (omega arith)))
+    let h = all a (omega arith) (omega arith) in
+    let r = kept_all p (a + 1) n (λ i lo hi. all i (omega arith) (omega arith)) in
+    grind arith
 
 all_counting : (P : ℕ → Type 0) (a n : ℕ) → ((i : ℕ) → a ≤ i → i < a + n → P i) → AllByRecursion P (range_with_len a n)
 all_counting P a zero all = tt
@@ -62,17 +64,9 @@ module _ (w k : ℕ) (lo : 1 ≤ k) (hi : k < w) where
 
   pub columns_length : length (columns w k) ≡ w - k + 2 ^ k - 1
   columns_length =
-      let g = 2 ^ (k - 1) in
       let e = eh in
       let p = pow_pos (k - 1) in
-      let xs = range_with_len 1 (2 ^ (k - 1) - 1) in
-      let ys = range_with_len (2 ^ (k - 1) + 1) (2 ^ (k - 1) - 1) in
-      ap length split
-      ∙ length-append (map (λ j. Lead (w - 1 - j)) (range_with_len 0 (w - k + 1))) (map Layer (xs ++ ys))
-      ∙ ap₂ (λ (m n : ℕ). m + n) leads_length
-      (length-map (xs ++ ys) Layer ∙ length-append xs ys
-      ∙ ap₂ (λ (m n : ℕ). m + n) (length-range_with_len 1 (2 ^ (k - 1) - 1)) (length-range_with_len (2 ^ (k - 1) + 1) (2 ^ (k - 1) - 1)))
-      ∙ (let z : w - k + 1 + (2 ^ (k - 1) - 1 + (2 ^ (k - 1) - 1)) ≡ w - k + 2 ^ k - 1 = omega arith in z)
+      ap length split ∙ simp (length-append, length-map, length-range_with_len) (omega arith)
 
   pub column_lead : (j : ℕ) → j < w - k + 1 → slice_index_or (columns w k) j (Lead 0) ≡ Lead (w - 1 - j)
   unfolding columns
@@ -86,19 +80,15 @@ module _ (w k : ℕ) (lo : 1 ≤ k) (hi : k < w) where
       → slice_index (range_with_len 1 (2 ^ (k - 1) - 1) ++ range_with_len (2 ^ (k - 1) + 1) (2 ^ (k - 1) - 1)) (p - 1) ≡ i
   layers_at p i p1 p2 c =
       let e = eh in
+      let g = pow_pos (k - 1) in
       let xs = range_with_len 1 (2 ^ (k - 1) - 1) in
       let ys = range_with_len (2 ^ (k - 1) + 1) (2 ^ (k - 1) - 1) in
       let l = length-range_with_len 1 (2 ^ (k - 1) - 1) in
-      ⊎_elim
-      (λ (x : (p < 2 ^ (k - 1)) × (i ≡ p)).
-      let x0 = x.0 in let x1 = x.1 in
-      get_or_append_left xs ys 0 (p - 1) (omega arith) ∙ get_or-range_with_len 1 (2 ^ (k - 1) - 1) (p - 1) 0 (omega arith) ∙ (let z : 1 + (p - 1) ≡ i = omega arith in z))
-      (λ (x : (2 ^ (k - 1) ≤ p) × (i ≡ p + 1)).
-      let x0 = x.0 in let x1 = x.1 in
-      get_or-append_right xs ys (2 ^ (k - 1) - 1) (p - 1) 0 l (omega arith)
-      ∙ get_or-range_with_len (2 ^ (k - 1) + 1) (2 ^ (k - 1) - 1) (p - 1 - (2 ^ (k - 1) - 1)) 0 (omega arith)
-      ∙ (let z : 2 ^ (k - 1) + 1 + (p - 1 - (2 ^ (k - 1) - 1)) ≡ i = omega (arith, pow_pos (k - 1)) in z))
-      c
+      let below = λ (h : p - 1 < length xs). get_or_append_left xs ys 0 (p - 1) h in
+      let above = λ (h : 2 ^ (k - 1) - 1 ≤ p - 1). get_or-append_right xs ys (2 ^ (k - 1) - 1) (p - 1) 0 l h in
+      let first = get_or-range_with_len 1 (2 ^ (k - 1) - 1) (p - 1) 0 in
+      let second = get_or-range_with_len (2 ^ (k - 1) + 1) (2 ^ (k - 1) - 1) (p - 1 - (2 ^ (k - 1) - 1)) 0 in
+      grind arith
 
   column_layer : (j p i : ℕ) → j ≡ w - k + p → 1 ≤ p → p ≤ 2 ^ k - 2 → ((p < 2 ^ (k - 1)) × (i ≡ p)) ⊎ ((2 ^ (k - 1) ≤ p) × (i ≡ p + 1))
       → slice_index_or (columns w k) j (Lead 0) ≡ Layer i
@@ -121,15 +111,8 @@ module _ (w k : ℕ) (lo : 1 ≤ k) (hi : k < w) where
       → (slice_index_or (columns w k) j (Lead 0) ≡ Layer i) × (1 ≤ i) × (i < 2 ^ k)
   column_counted j i ge lt ne e =
       let f = eh in
-      let p = j - (w - k + 1) + 1 in
-      ⊎_elim
-      (λ (x : 2 ^ k / 2 < i).
-      let z = ap (λ (b : Bool). p + cond b 1 0) (lt-ltb (2 ^ k / 2) i x) in
-      (column_layer j p i (omega arith) (omega arith) (omega arith) (inr (omega arith, omega arith)), omega arith, omega arith))
-      (λ (x : i ≤ 2 ^ k / 2).
-      let z = ap (λ (b : Bool). p + cond b 1 0) (le-ltb (2 ^ k / 2) i x) in
-      (column_layer j p i (omega arith) (omega arith) (omega arith) (inl (omega (arith, ne), omega arith)), omega arith, omega (arith, ne)))
-      (cases_lt (2 ^ k / 2) i)
+      let l = column_layer j (j - (w - k + 1) + 1) i in
+      grind (arith, nat_tests)
 
   pub all_columns : (P : Column → Type 0) → ((b : ℕ) → k ≤ b + 1 → b < w → P (Lead b)) → ((i : ℕ) → 1 ≤ i → i < 2 ^ k → (i ≢ 2 ^ (k - 1)) → P (Layer i))
       → AllByRecursion P (columns w k)

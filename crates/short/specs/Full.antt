@@ -1,9 +1,10 @@
 -- The law of the spans of length h: a value's word matches the word of the span from s exactly when the value lies less than
 -- h past s. For every width w and every h = 2^k.
-use Rattle.std.specs.Prelude.{◌≡◌, ℕ, zero, suc, ◌+◌, ◌-◌, ◌*◌, ◌/◌, ◌%◌, ◌^◌, ◌<◌, ◌≤◌, Bool, true, false, ◌⊎◌, Decides, ◌==◌, ◌≢◌, refl}
+use Rattle.std.specs.Prelude.{◌≡◌, ℕ, zero, suc, ◌+◌, ◌-◌, ◌*◌, ◌/◌, ◌%◌, ◌^◌, ◌<◌, ◌≤◌, true, ◌⊎◌, Decides, ◌==◌, ◌≢◌, refl}
 use Rattle.std.proofs.Math.Path.{sym, subst}
 use Rattle.std.proofs.Common.{ap, ◌∙◌, inl, inr, arith, pow_pos}
 use Rattle.std.specs.Bool.{beq}
+use Rattle.std.specs.Cmp.{booleans_Decides}
 use Rattle.std.proofs.Math.Logic.{⊎_elim}
 use Rattle.std.proofs.Math.Nat.{add-div_right, div-div-eq-div-mul, mod-lt}
 use Rattle.std.proofs.lemmas.Bool.{eqb-true, eq-eqb, cases_eq, and_parts, and_from}
@@ -17,32 +18,20 @@ use Rattle.short.specs.Gray.{gray, gray_high, gray_from_lead, lead_from_gray, gr
 use Rattle.short.specs.Circle.{gap, lay, lay_from_layer, layer_from_lay, back, Way, here, next, round, go, block_lt, layer_keeps, layer_tells, block_tells}
 use Rattle.short.specs.Columns.{all_columns, each_lead, each_layer}
 
-pub beq_true : (a b : Bool) → beq a b ≡ true → a ≡ b
-beq_true true true e = refl
-beq_true true false e = sym e
-beq_true false true e = e
-beq_true false false e = refl
-
-pub beq_from : (a b : Bool) → a ≡ b → beq a b ≡ true
-beq_from true true e = refl
-beq_from true false e = sym e
-beq_from false true e = e
-beq_from false false e = refl
-
 pub agreeing_at : (N s b n : ℕ) → agreeing N s b n ≡ true → (t : ℕ) → t < n → lead ((s + t) % N) b ≡ lead s b
 unfolding agreeing
 agreeing_at N s b zero e t h = absurd (omega arith)
 agreeing_at N s b (suc n) e t h =
     let p = and_parts (beq (lead ((s + n) % N) b) (lead s b)) (agreeing N s b n) e in
     ⊎_elim
-    (λ (q : t ≡ n). ap (λ (k : ℕ). lead ((s + k) % N) b) q ∙ beq_true (lead ((s + n) % N) b) (lead s b) p.0)
+    (λ (q : t ≡ n). ap (λ (k : ℕ). lead ((s + k) % N) b) q ∙ (booleans_Decides (lead ((s + n) % N) b) (lead s b)).0 p.0)
     (λ ne. agreeing_at N s b n p.1 t (omega (arith, ne))) (cases_eq t n)
 
 pub agreeing_from : (N s b n : ℕ) → ((t : ℕ) → t < n → lead ((s + t) % N) b ≡ lead s b) → agreeing N s b n ≡ true
 unfolding agreeing
 agreeing_from N s b zero all = refl
 agreeing_from N s b (suc n) all =
-    and_from (beq (lead ((s + n) % N) b) (lead s b)) (agreeing N s b n) (beq_from (lead ((s + n) % N) b) (lead s b) (all n (omega arith)))
+    and_from (beq (lead ((s + n) % N) b) (lead s b)) (agreeing N s b n) ((booleans_Decides (lead ((s + n) % N) b) (lead s b)).1 (all n (omega arith)))
     (agreeing_from N s b n (λ t h. all t (omega arith)))
 
 -- ---- the middle layer, which the last leading digit tells: they turn over at the same values
@@ -67,16 +56,10 @@ gray_from_middle b h v s eh e =
 -- ---- neighbours among the blocks
 
 pub next_same : (p q a b : ℕ) → a < p → b < p → Next p q a → Next p q b → a ≡ b
-next_same p q a b ha hb m n =
-    ⊎_elim
-    (λ (x : a ≡ q + 1). ⊎_elim (λ (y : b ≡ q + 1). omega arith) (λ (y : (q + 1 ≡ p) × (b ≡ 0)). absurd (omega (arith, y.0))) n)
-    (λ (x : (q + 1 ≡ p) × (a ≡ 0)).
-    ⊎_elim (λ (y : b ≡ q + 1). absurd (omega (arith, x.0))) (λ (y : (q + 1 ≡ p) × (b ≡ 0)). omega (arith, x.1, y.1)) n)
-    m
+next_same p q a b ha hb m n = grind arith
 
 some_next : (p q : ℕ) → q < p → (r : ℕ) × (r < p) × Next p q r
-some_next p q h =
-    ⊎_elim (λ (e : q + 1 ≡ p). (0, omega arith, inr (e, refl))) (λ ne. (q + 1, omega (arith, ne), inl refl)) (cases_eq (q + 1) p)
+some_next p q h = ⊎_elim (λ (e : q + 1 ≡ p). (0, omega arith, inr (e, refl))) (λ ne. (q + 1, omega (arith, ne), inl refl)) (cases_eq (q + 1) p)
 
 pub way_block : {h B s u : ℕ} → Way h B s u → (u / h ≡ s / h) ⊎ Next B (s / h) (u / h)
 way_block way = elim way [ here e r ↦ inl e | next e r ↦ inr (inl e) | round e q r ↦ inr (inr (q, e)) ]

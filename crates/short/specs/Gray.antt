@@ -51,14 +51,7 @@ even_or_odd q = ⊎_elim (λ h. inl h) (λ ne. inr (omega (arith, ne))) (cases_e
 
 -- the half of a number and the lowest bit of its code fix it
 low_same : (x y : ℕ) → x / 2 ≡ y / 2 → (x + 1) / 2 % 2 ≡ (y + 1) / 2 % 2 → x ≡ y
-low_same x y e f =
-    let a : (x + 1) / 2 ≡ x / 2 + x % 2 = omega arith in
-    let b : (y + 1) / 2 ≡ x / 2 + y % 2 = omega arith in
-    let g : (x / 2 + x % 2) % 2 ≡ (x / 2 + y % 2) % 2 = sym (ap (λ (n : ℕ). n % 2) a) ∙ f ∙ ap (λ (n : ℕ). n % 2) b in
-    ⊎_elim
-    (λ (p : x % 2 ≡ 0). ⊎_elim (λ (q : y % 2 ≡ 0). omega arith) (λ (q : y % 2 ≡ 1). omega arith) (even_or_odd y))
-    (λ (p : x % 2 ≡ 1). ⊎_elim (λ (q : y % 2 ≡ 0). omega arith) (λ (q : y % 2 ≡ 1). omega arith) (even_or_odd y))
-    (even_or_odd x)
+low_same x y e f = omega arith
 
 -- numbers of m bits with the same code are one
 pub gray_apart : (m x y : ℕ) → x < 2 ^ m → y < 2 ^ m → ((b : ℕ) → b < m → gray x b ≡ gray y b) → x ≡ y
@@ -77,16 +70,14 @@ Next p q r = (r ≡ q + 1) ⊎ ((q + 1 ≡ p) × (r ≡ 0))
 pub gray_pair : (m q r x : ℕ) → q < 2 ^ m → r < 2 ^ m → x < 2 ^ m → Next (2 ^ m) q r
     → ((b : ℕ) → b < m → gray q b ≡ gray r b → gray x b ≡ gray q b) → (x ≡ q) ⊎ (x ≡ r)
 gray_pair zero q r x hq hr hx n all = inl (omega arith)
-gray_pair (suc zero) q r x hq hr hx n all =
-    ⊎_elim (λ e. inl e)
-    (λ ne. inr (⊎_elim (λ (e : r ≡ q + 1). omega (arith, ne)) (λ (e : (q + 1 ≡ 2) × (r ≡ 0)). omega (arith, ne, e.0, e.1)) n)) (cases_eq x q)
+gray_pair (suc zero) q r x hq hr hx n all = grind arith
 gray_pair (suc (suc m)) q r x hq hr hx n all =
     let p : 2 ^ suc (suc m) ≡ 2 ^ suc m * 2 = pow-suc 2 (suc m) in
     let o : 2 ^ suc m ≡ 2 ^ m * 2 = pow-suc 2 m in
     ⊎_elim
     (λ (even : q % 2 ≡ 0).
     -- the neighbour differs from q in bit 0 alone
-    let next : r ≡ q + 1 = ⊎_elim (λ e. e) (λ (e : (q + 1 ≡ 2 ^ suc (suc m)) × (r ≡ 0)). absurd (omega (arith, e.0))) n in
+    let next : r ≡ q + 1 = grind arith in
     let half : r / 2 ≡ q / 2 = omega arith in
     let high : x / 2 ≡ q / 2 =
     gray_apart (suc m) (x / 2) (q / 2) (omega arith) (omega arith)
@@ -94,16 +85,8 @@ gray_pair (suc (suc m)) q r x hq hr hx n all =
     ⊎_elim (λ e. inl e) (λ ne. inr (omega (arith, ne))) (cases_eq x q))
     (λ (odd : q % 2 ≡ 1).
     -- the halves are neighbours, and q and r agree in bit 0
-    let next : Next (2 ^ suc m) (q / 2) (r / 2) =
-    ⊎_elim (λ (e : r ≡ q + 1). inl (omega arith))
-    (λ (e : (q + 1 ≡ 2 ^ suc (suc m)) × (r ≡ 0)). inr (omega (arith, e.0), omega (arith, e.1))) n in
-    let low : (q + 1) / 2 % 2 ≡ (r + 1) / 2 % 2 =
-    ⊎_elim (λ (e : r ≡ q + 1). ap (λ (y : ℕ). y % 2) (let k : (q + 1) / 2 ≡ (r + 1) / 2 = omega arith in k))
-    (λ (e : (q + 1 ≡ 2 ^ suc (suc m)) × (r ≡ 0)).
-    let k : (q + 1) / 2 ≡ 2 ^ m * 2 = omega (arith, e.0) in
-    let l : (r + 1) / 2 ≡ 0 = omega (arith, e.1) in
-    ap (λ (y : ℕ). y % 2) k ∙ (let z : 2 ^ m * 2 % 2 ≡ 0 = omega arith in z) ∙ sym (ap (λ (y : ℕ). y % 2) l))
-    n in
+    let next : Next (2 ^ suc m) (q / 2) (r / 2) = grind arith in
+    let low : (q + 1) / 2 % 2 ≡ (r + 1) / 2 % 2 = grind arith in
     let bottom : (x + 1) / 2 % 2 ≡ (q + 1) / 2 % 2 =
     sym (gray_zero x) ∙ all 0 (omega arith) (gray_zero q ∙ low ∙ sym (gray_zero r)) ∙ gray_zero q in
     ⊎_elim

@@ -1,14 +1,14 @@
 -- The short code keeps the law of field codes, for every width and every h.
 use Rattle.std.specs.Prelude.{◌≡◌, ℕ, ◌+◌, ◌-◌, ◌*◌, ◌%◌, ◌^◌, ◌<◌, ◌≤◌, min, true, ◌&&◌, ◌⊎◌, List, [], ◌∷◌, map, length, get_or, Some, None, Decides, Option, ◌==◌, nat_le, nat_lt, slice_index, slice_index_or, refl}
 use Rattle.std.proofs.Math.Path.{sym, ap}
-use Rattle.std.proofs.Common.{ap₂, ◌∙◌, inl, inr, mod-lt, pow_pos, pow_mono}
+use Rattle.std.proofs.Common.{ap₂, ◌∙◌, mod-lt, pow_pos, pow_mono}
 use Rattle.std.proofs.Math.Bool.{and-true}
 use Rattle.std.proofs.Math.Logic.{⊎_elim}
 use Rattle.std.proofs.Math.Nat.{mod-eq_of_lt, add-mod_right}
 use native.Mathlib.Omega.{arith}
 use Rattle.std.specs.List.{AllByRecursion}
 use Rattle.std.proofs.lemmas.List.{length-map, get_or-map}
-use Rattle.std.proofs.lemmas.Bool.{cases_eq, cases_lt, and_parts, and_from, leb-true, le-leb, ltb-true, lt-ltb, eq-eqb, ne_eqb, cond-true, cond-false}
+use Rattle.std.proofs.lemmas.Bool.{cases_eq, and_parts, and_from, leb-true, le-leb, ltb-true, lt-ltb, eq-eqb, ne_eqb, cond-true, cond-false}
 use Rattle.std.proofs.lemmas.Bool.Decides.{same_from_decides, Decides-ltb}
 use Rattle.ternary.specs.declared.digit.Digit.{Digit}
 use Rattle.ternary.specs.declared.digit.Digit.TheVariants.{Any}
@@ -37,33 +37,20 @@ abbrev Offset : ℕ → ℕ → ℕ → ℕ → Type 0
 Offset N s v x = ((x ≡ v - s) × (s ≤ v)) ⊎ ((x ≡ v + N - s) × (v < s))
 
 gap_cases : (N s v : ℕ) → s < N → v < N → Offset N s v (gap N s v)
-gap_cases N s v hs hv = ⊎_elim (λ (l : v < s). inr (offset_below N s v l hs, l)) (λ (g : s ≤ v). inl (offset_above N s v g hv, g)) (cases_lt v s)
+gap_cases N s v hs hv = let a = offset_above N s v in let b = offset_below N s v in grind arith
 
 move : (N s u v j x y : ℕ) → s < N → u < N → v < N → j < N → (u + j ≡ s) ⊎ (u + j ≡ s + N) → Offset N s v x → Offset N u v y → (y ≡ x + j) ⊎ (y + N ≡ x + j)
-move N s u v j x y hs hu hv hj (inl r) (inl p) (inl q) = inl (omega (arith, p.0, p.1, q.0, q.1))
-move N s u v j x y hs hu hv hj (inr r) (inl p) (inl q) = inr (omega (arith, p.0, p.1, q.0, q.1))
-move N s u v j x y hs hu hv hj (inl r) (inl p) (inr q) = inl (omega (arith, p.0, p.1, q.0, q.1))
-move N s u v j x y hs hu hv hj (inr r) (inl p) (inr q) = inl (omega (arith, p.0, p.1, q.0, q.1))
-move N s u v j x y hs hu hv hj (inl r) (inr p) (inl q) = inr (omega (arith, p.0, p.1, q.0, q.1))
-move N s u v j x y hs hu hv hj (inr r) (inr p) (inl q) = inr (omega (arith, p.0, p.1, q.0, q.1))
-move N s u v j x y hs hu hv hj (inl r) (inr p) (inr q) = inl (omega (arith, p.0, p.1, q.0, q.1))
-move N s u v j x y hs hu hv hj (inr r) (inr p) (inr q) = inr (omega (arith, p.0, p.1, q.0, q.1))
+move N s u v j x y hs hu hv hj r p q = grind arith
 
 -- an offset x is below n exactly when it is below h, and so is the offset y from a start j = h − n before
 both_below : (N h n j x y : ℕ) → 2 * h ≤ N → n + j ≡ h → (y ≡ x + j) ⊎ (y + N ≡ x + j) → Decides (nat_lt x h && nat_lt y h) (x < n)
 both_below N h n j x y big e c = (
-  (λ t.
-      let p = and_parts (nat_lt x h) (nat_lt y h) t in
-      let a = ltb-true x h p.0 in
-      let b = ltb-true y h p.1 in
-      ⊎_elim (λ (k : y ≡ x + j). omega arith) (λ (k : y + N ≡ x + j). absurd (omega arith)) c),
-  (λ lt.
-      and_from (nat_lt x h) (nat_lt y h) (lt-ltb x h (omega arith))
-      (lt-ltb y h (⊎_elim (λ (k : y ≡ x + j). omega arith) (λ (k : y + N ≡ x + j). absurd (omega arith)) c))),
+  (λ t. let p = and_parts (nat_lt x h) (nat_lt y h) t in let a = ltb-true x h p.0 in let b = ltb-true y h p.1 in grind arith),
+  (λ lt. and_from (nat_lt x h) (nat_lt y h) (lt-ltb x h (omega arith)) (lt-ltb y h (grind arith))),
 )
 
 module _ (w k : ℕ) (lo : 1 ≤ k) (hi : k < w) where
-  big : 2 * 2 ^ k ≤ 2 ^ w
+  pub big : 2 * 2 ^ k ≤ 2 ^ w
   big =
       let e = even_power w (omega arith) in
       let m = pow_mono (let z : k ≤ w - 1 = omega arith in z) in
@@ -121,16 +108,11 @@ module _ (w k : ℕ) (lo : 1 ≤ k) (hi : k < w) where
     ending_place : (ending w k s n + (2 ^ k - n) ≡ s) ⊎ (ending w k s n + (2 ^ k - n) ≡ s + 2 ^ w)
     ending_place =
         let b = big in
-        ⊎_elim
-        (λ (less : s + n + (2 ^ w - 2 ^ k) < 2 ^ w).
-        let e : ending w k s n ≡ s + n + (2 ^ w - 2 ^ k) = mod-eq_of_lt less in
-        inr (omega arith))
-        (λ (more : 2 ^ w ≤ s + n + (2 ^ w - 2 ^ k)).
-        let e : ending w k s n ≡ s + n - 2 ^ k =
+        let less = λ (l : s + n + (2 ^ w - 2 ^ k) < 2 ^ w). mod-eq_of_lt l in
+        let more : 2 ^ w ≤ s + n + (2 ^ w - 2 ^ k) → ending w k s n ≡ s + n - 2 ^ k = λ g.
         ap (λ (x : ℕ). x % 2 ^ w) (let z : s + n + (2 ^ w - 2 ^ k) ≡ (s + n - 2 ^ k) + 2 ^ w = omega arith in z) ∙ add-mod_right (s + n - 2 ^ k) (2 ^ w)
         ∙ mod-eq_of_lt (let z : s + n - 2 ^ k < 2 ^ w = omega arith in z) in
-        inl (omega arith))
-        (cases_lt (s + n + (2 ^ w - 2 ^ k)) (2 ^ w))
+        grind arith
 
     both : (v : ℕ) → v < 2 ^ w → Decides (nat_lt (gap (2 ^ w) s v) (2 ^ k) && nat_lt (gap (2 ^ w) (ending w k s n) v) (2 ^ k)) (gap (2 ^ w) s v < n)
     both v hv =

@@ -1,9 +1,10 @@
 -- The plain code keeps the laws.
 use Rattle.std.specs.Prelude.{◌≡◌, ℕ, zero, suc, ◌+◌, ◌-◌, ◌*◌, ◌/◌, ◌%◌, ◌^◌, ◌<◌, ◌≤◌, min, Bool, true, false, not, ◌&&◌, List, [], ◌∷◌, length, Some, None, Decides, Option, ◌==◌, nat_eq, nat_le, nat_lt, slice_index, slice_index_or, refl}
-use Rattle.std.proofs.Common.{sym, ap, subst, ◌∙◌, ⊎_elim, add-mul, mul-le-mul_right, div-add-mod', mod-lt, arith, pow_pos, pow_mono, shr-shr}
+use Rattle.std.proofs.Common.{sym, ap, subst, ◌∙◌, ⊎_elim, add-mul, mul-le-mul_right, div-add-mod', mod-lt, arith, pow_pos, pow_mono, shr-shr, count_ones}
 use Rattle.std.proofs.Math.Bool.{and-true}
 use Rattle.std.proofs.Math.Nat.{mod-one}
 use Rattle.std.proofs.Math.Arith.{digits_div}
+use Rattle.std.specs.Int.{is_power_of_two}
 use Rattle.std.specs.List.{range_with_len, AllByRecursion}
 use Rattle.std.proofs.lemmas.Nat.{div_below, pow_below, shr_below}
 use Rattle.std.proofs.lemmas.List.FromFn.{length-map-range_with_len, get_or-map-range_with_len}
@@ -20,7 +21,7 @@ use Rattle.codes.specs.Spans.{holds}
 use Rattle.codes.specs.Meaning.{Lawful, Small, Values, Boxes, in_box, sharp}
 use Rattle.simple.specs.Plain.{power, plain_side, highest, plain_field, plain}
 use Rattle.codes.proofs.Maps.{fits_map, all_map, sharp_of}
-use Rattle.codes.proofs.Powers.{exponent, power_parts}
+use Rattle.codes.proofs.Powers.{exponent, power_parts, one_digit, digit_of_power}
 use Rattle.codes.proofs.Offsets.{in_field_parts, straight}
 
 bit_high : (x k b : ℕ) → bit x (k + b) ≡ bit (x / 2 ^ k) b
@@ -141,15 +142,17 @@ power_from (suc w) j n h e =
     ⊎_elim (λ (x : j ≡ suc w). or_left (n == 2 ^ suc w) (power w n) (eq-eqb n (2 ^ suc w) (e ∙ ap (λ (i : ℕ). 2 ^ i) x)))
     (λ ne. or_right (n == 2 ^ suc w) (power w n) (power_from w j n (omega (arith, ne)) e)) (cases_eq j (suc w))
 
-pub power_zero : (w : ℕ) → false ≡ power w 0
-power_zero w = by (power w 0) refl
-  where
-    by : (b : Bool) → power w 0 ≡ b → false ≡ power w 0
-    by true e = let j = power_is w 0 e in absurd (omega (arith, j.2, pow_pos j.0))
-    by false e = sym e
+-- a number of which one binary digit is set, with the logarithm k
+pub power_log : (w n k : ℕ) → is_power_of_two n ≡ true → 2 ^ k ≤ n → n < 2 * 2 ^ k → nat_le k w ≡ power w n
+power_log w n k one lo hi =
+    let p = one_digit n n (omega arith) (eqb-true (count_ones n) 1 one) in
+    let e = exponent k p.0 n lo hi p.1 in
+    same_from_decides {P = k ≤ w} _ _ (leb-true k w, le-leb k w)
+    ((λ t. let j = power_is w n t in let x = exponent k j.0 n lo hi j.2 in omega (arith, j.1)), (λ h. power_from w k n h (p.1 ∙ ap (λ (i : ℕ). 2 ^ i) e)))
 
-pub power_log : (w n k : ℕ) → 2 ^ k ≤ n → n < 2 * 2 ^ k → (2 ^ k == n && nat_le k w) ≡ power w n
-power_log w n k lo hi =
-    same_from_decides {P = (n ≡ 2 ^ k) × (k ≤ w)} _ _
-    ((λ e. let p = and_parts (2 ^ k == n) (nat_le k w) e in (sym (eqb-true (2 ^ k) n p.0), leb-true k w p.1)), (λ p. and_from (2 ^ k == n) (nat_le k w) (eq-eqb (2 ^ k) n (sym p.0)) (le-leb k w p.1)))
-    ((λ e. let j = power_is w n e in let x = exponent k j.0 n lo hi j.2 in (j.2 ∙ ap (λ (i : ℕ). 2 ^ i) x, omega (arith, j.1))), (λ p. power_from w k n p.1 p.0))
+pub no_power : (w n : ℕ) → is_power_of_two n ≡ false → false ≡ power w n
+no_power w n none = by (power w n) refl
+  where
+    by : (b : Bool) → power w n ≡ b → false ≡ power w n
+    by true e = let j = power_is w n e in absurd (true≢false (sym (eq-eqb (count_ones n) 1 (ap count_ones j.2 ∙ digit_of_power j.0)) ∙ none))
+    by false e = sym e

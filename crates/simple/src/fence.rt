@@ -1,14 +1,18 @@
 // The fence code: 2^w - 1 digits numbered from 1, of which digit i tells whether the value is at least i.
 //
 //     w = 2    0 is 000    1 is 100    2 is 110    3 is 111    the span from 1 to 2 is 1*0
-ghost use Rattle.std.specs.Prelude.{◌≡◌, ◌-◌, ◌^◌, ◌≤◌};
+ghost use Rattle.std.specs.Prelude.{◌≡◌, ℕ, ◌+◌, ◌-◌, ◌^◌, ◌<◌, ◌≤◌};
+ghost use Rattle.std.proofs.Math.Seq.{paste};
+ghost use Rattle.ternary.specs.declared.digit.Digit.{Digit};
+ghost use Rattle.ternary.specs.Words.{digits};
 ghost use Rattle.codes.specs.Spans.{bits_of};
+ghost use Rattle.codes.specs.Runs.{Gives};
 ghost use Rattle.codes.specs.Settings.{Setting};
 ghost use Rattle.simple.specs.Fence.{fence, fenced, fence_digit, fence_side};
 ghost use Rattle.simple.specs.Fences.{fenced_length, fence_lawful};
 
 use codes::code::FieldCode;
-use codes::run::{DigitRun, put_run};
+use codes::run::put_run;
 use codes::span::Span;
 use codes::width::Width;
 use ternary::digit::Digit;
@@ -30,10 +34,18 @@ impl FenceCode {
         if bits > 6 {
             return Err(Refusal::BadSetting);
         }
-        match Width::new(bits) {
-            Ok(width) => Ok(FenceCode { width }),
-            Err(e) => Err(e),
-        }
+        let width = Width::new(bits)?;
+        Ok(FenceCode { width })
+    }
+
+    // Writes the digits 1 to 2^w - 1.
+    #[tactic(auto, using(crate::specs::Fences::fenced_length, crate::specs::Fences::fenced_at))]
+    fn put_posts<F: Fn(u32) -> Digit>(self, digit: F, at: u16, out: &mut Word)
+        requires told { (i : ℕ) → i < 2 ^ bits_of self.width → F.pre digit i }
+        requires room { at + (2 ^ bits_of self.width - 1) ≤ 256 }
+        ensures { (f : ℕ → Digit) → Gives (F.post digit) (2 ^ bits_of self.width) f → digits out.new ≡ paste (digits out.old) at (fenced f (bits_of self.width)) (2 ^ bits_of self.width - 1) }
+    {
+        put_run(self.width.highest(), |i| digit(u32::from(i) + 1), at, out);
     }
 }
 
@@ -41,11 +53,14 @@ impl FenceCode {
 fn value_digit(value: u16, i: u32) -> Digit
     ensures { result ≡ fence_digit value i }
 {
-    if i <= value as u32 {
-        Digit::One
-    } else {
-        Digit::Zero
-    }
+    Digit::from(i <= u32::from(value))
+}
+
+// The number after the last one of a span that does not go on at 0.
+fn end(span: Span) -> u64
+    ensures { result ≡ span.low + span.len }
+{
+    u64::from(span.low) + u64::from(span.len)
 }
 
 // Digit i of a side of a box: 1 up to the low end, 0 above the high end, * between.
@@ -53,60 +68,9 @@ fn side_digit(side: Option<Span>, i: u32) -> Digit
     ensures { result ≡ fence_side side i }
 {
     match side {
-        None => Digit::Any,
-        Some(span) => {
-            if i <= span.low as u32 {
-                Digit::One
-            } else if span.low as u64 + span.len as u64 <= i as u64 {
-                Digit::Zero
-            } else {
-                Digit::Any
-            }
-        }
-    }
-}
-
-#[derive(Drop)]
-struct FenceValue {
-    width: Width,
-    value: u16,
-}
-
-impl DigitRun for FenceValue {
-    ghost size = { λ r. 2 ^ bits_of r.width - 1 };
-
-    ghost run = { λ r. fenced (fence_digit r.value) (bits_of r.width) };
-
-    ghost long = { λ r. fenced_length (fence_digit r.value) (bits_of r.width) };
-
-    fn count(&self) -> u16 {
-        self.width.highest()
-    }
-
-    fn digit(&self, i: u16) -> Digit {
-        value_digit(self.value, i as u32 + 1)
-    }
-}
-
-#[derive(Drop)]
-struct FenceSide {
-    width: Width,
-    side: Option<Span>,
-}
-
-impl DigitRun for FenceSide {
-    ghost size = { λ r. 2 ^ bits_of r.width - 1 };
-
-    ghost run = { λ r. fenced (fence_side r.side) (bits_of r.width) };
-
-    ghost long = { λ r. fenced_length (fence_side r.side) (bits_of r.width) };
-
-    fn count(&self) -> u16 {
-        self.width.highest()
-    }
-
-    fn digit(&self, i: u16) -> Digit {
-        side_digit(self.side, i as u32 + 1)
+        Some(span) if i <= u32::from(span.low) => Digit::One,
+        Some(span) if end(span) <= u64::from(i) => Digit::Zero,
+        _ => Digit::Any,
     }
 }
 
@@ -128,26 +92,21 @@ impl FieldCode for FenceCode {
     }
 
     fn accepts(&self, _field: u16, span: Span) -> bool {
-        span.low as u64 + span.len as u64 <= self.width.count() as u64
+        end(span) <= u64::from(self.width.count())
     }
 
     fn reach(&self, _field: u16) -> u16 {
         self.width.highest() // the whole field
     }
 
+    // Values and boxes apart, as in the trait: what differs is the digits that are told.
     fn put_values(&self, values: &[u16], at: u16, out: &mut Word) {
-        let run = FenceValue {
-            width: self.width,
-            value: values[0],
-        };
-        put_run(&run, at, out);
+        let value = values[0];
+        self.put_posts(|i| value_digit(value, i), at, out);
     }
 
     fn put_box(&self, sides: &[Option<Span>], at: u16, out: &mut Word) {
-        let run = FenceSide {
-            width: self.width,
-            side: sides[0],
-        };
-        put_run(&run, at, out);
+        let side = sides[0];
+        self.put_posts(|i| side_digit(side, i), at, out);
     }
 }

@@ -1,13 +1,17 @@
 // The plain code: the w binary digits of a value, highest first. A span of 2^j values that starts at a
 // multiple of 2^j has * as its lowest j digits, and no other span is accepted.
-ghost use Rattle.std.specs.Prelude.{◌≡◌, ◌<◌, ◌≤◌};
+ghost use Rattle.std.specs.Prelude.{◌≡◌, ℕ, ◌+◌, ◌<◌, ◌≤◌};
+ghost use Rattle.std.proofs.Math.Seq.{paste};
+ghost use Rattle.ternary.specs.declared.digit.Digit.{Digit};
+ghost use Rattle.ternary.specs.Words.{digits};
 ghost use Rattle.codes.specs.Spans.{bits_of};
+ghost use Rattle.codes.specs.Runs.{Gives};
 ghost use Rattle.codes.specs.Settings.{Setting};
 ghost use Rattle.simple.specs.Plain.{plain, power, highest, plain_digit, plain_side};
 ghost use Rattle.simple.specs.Plains.{highest_length, plain_lawful};
 
 use codes::code::FieldCode;
-use codes::run::{DigitRun, put_run};
+use codes::run::put_run;
 use codes::span::Span;
 use codes::width::Width;
 use ternary::digit::Digit;
@@ -29,35 +33,37 @@ impl PlainCode {
         if bits < 2 {
             return Err(Refusal::BadSetting);
         }
-        match Width::new(bits) {
-            Ok(width) => Ok(PlainCode { width }),
-            Err(e) => Err(e),
-        }
+        let width = Width::new(bits)?;
+        Ok(PlainCode { width })
+    }
+
+    // Writes a digit for each bit, that of the highest first.
+    #[tactic(auto, using(crate::specs::Plains::highest_length, crate::specs::Plains::highest_at))]
+    fn put_bits<F: Fn(u8) -> Digit>(self, digit: F, at: u16, out: &mut Word)
+        requires told { (b : ℕ) → b < bits_of self.width → F.pre digit b }
+        requires room { at + bits_of self.width ≤ 256 }
+        ensures { (f : ℕ → Digit) → Gives (F.post digit) (bits_of self.width) f → digits out.new ≡ paste (digits out.old) at (highest f (bits_of self.width)) (bits_of self.width) }
+    {
+        let bits = self.width.bits();
+        put_run(u16::from(bits), |i| digit(bits - 1 - i as u8), at, out);
     }
 }
 
 // Whether n is 2^j for some j up to the width.
-fn is_power(width: u8, n: u32) -> bool
-    requires { width ≤ 16 }
-    ensures { result ≡ power width n }
+#[tactic(auto, using(crate::specs::Plains::power_log, crate::specs::Plains::no_power))]
+fn is_power(width: Width, n: u32) -> bool
+    ensures { result ≡ power (bits_of width) n }
 {
-    if n == 0 {
-        return false;
-    }
-    let k = n.ilog2();
-    (1u32 << k == n) & (k <= width as u32)
+    n.is_power_of_two() && n.ilog2() <= u32::from(width.bits())
 }
 
 // The digit of bit b of a value.
+#[tactic(auto, using(ternary::proofs::Bits::bit_test))]
 fn value_digit(value: u16, b: u8) -> Digit
     requires { b < 16 }
     ensures { result ≡ plain_digit value b }
 {
-    if (value >> b) & 1 == 1 {
-        Digit::One
-    } else {
-        Digit::Zero
-    }
+    Digit::from((value >> b) & 1 == 1)
 }
 
 // The digit of bit b of a side of a box.
@@ -66,58 +72,8 @@ fn side_digit(side: Option<Span>, b: u8) -> Digit
     ensures { result ≡ plain_side side b }
 {
     match side {
-        None => Digit::Any,
-        Some(span) => {
-            if 1u32 << b < span.len {
-                Digit::Any
-            } else {
-                value_digit(span.low, b)
-            }
-        }
-    }
-}
-
-#[derive(Drop)]
-struct PlainValue {
-    width: Width,
-    value: u16,
-}
-
-impl DigitRun for PlainValue {
-    ghost size = { λ r. bits_of r.width };
-
-    ghost run = { λ r. highest (plain_digit r.value) (bits_of r.width) };
-
-    ghost long = { λ r. highest_length (plain_digit r.value) (bits_of r.width) };
-
-    fn count(&self) -> u16 {
-        self.width.bits() as u16
-    }
-
-    fn digit(&self, i: u16) -> Digit {
-        value_digit(self.value, self.width.bits() - 1 - i as u8)
-    }
-}
-
-#[derive(Drop)]
-struct PlainSide {
-    width: Width,
-    side: Option<Span>,
-}
-
-impl DigitRun for PlainSide {
-    ghost size = { λ r. bits_of r.width };
-
-    ghost run = { λ r. highest (plain_side r.side) (bits_of r.width) };
-
-    ghost long = { λ r. highest_length (plain_side r.side) (bits_of r.width) };
-
-    fn count(&self) -> u16 {
-        self.width.bits() as u16
-    }
-
-    fn digit(&self, i: u16) -> Digit {
-        side_digit(self.side, self.width.bits() - 1 - i as u8)
+        Some(span) if span.len <= 1u32 << b => value_digit(span.low, b),
+        _ => Digit::Any,
     }
 }
 
@@ -131,38 +87,30 @@ impl FieldCode for PlainCode {
     }
 
     fn size(&self) -> u16 {
-        self.width.bits() as u16 // a digit for each bit
+        u16::from(self.width.bits()) // a digit for each bit
     }
 
     fn width(&self, _field: u16) -> Width {
         self.width // of the one field
     }
 
+    #[tactic(auto, using(crate::specs::Plains::power_is, std::proofs::lemmas::Nat::pow_pos))]
     fn accepts(&self, _field: u16, span: Span) -> bool {
-        if is_power(self.width.bits(), span.len) {
-            span.low as u32 % span.len == 0
-        } else {
-            false
-        }
+        is_power(self.width, span.len) && u32::from(span.low) % span.len == 0
     }
 
     fn reach(&self, _field: u16) -> u16 {
         0 // only the value itself
     }
 
+    // Values and boxes apart, as in the trait: what differs is the digits that are told.
     fn put_values(&self, values: &[u16], at: u16, out: &mut Word) {
-        let run = PlainValue {
-            width: self.width,
-            value: values[0],
-        };
-        put_run(&run, at, out);
+        let value = values[0];
+        self.put_bits(|b| value_digit(value, b), at, out);
     }
 
     fn put_box(&self, sides: &[Option<Span>], at: u16, out: &mut Word) {
-        let run = PlainSide {
-            width: self.width,
-            side: sides[0],
-        };
-        put_run(&run, at, out);
+        let side = sides[0];
+        self.put_bits(|b| side_digit(side, b), at, out);
     }
 }

@@ -11,7 +11,7 @@ mod rounds;
 use anyhow::anyhow;
 use rounds::{code_many_spans, code_many_values};
 use short::code::ShortCode;
-use std::time::{Duration, Instant};
+use std::time::Instant;
 use std::{env, io};
 
 // How many rounds the first argument asks for; None where it is missing, zero or no number.
@@ -21,23 +21,23 @@ fn rounds_asked(rt: &HostRuntime) -> io::Result<Option<u32>> {
     let Some(word) = arguments.next() else {
         return Ok(None);
     };
-    match word.as_str().parse::<u32>() {
-        Ok(0) | Err(_) => Ok(None),
-        Ok(rounds) => Ok(Some(rounds)),
-    }
+    Ok(word.as_str().parse().ok().filter(|rounds| *rounds > 0))
 }
 
-fn nanoseconds_each(time: Duration, rounds: u32) -> f64 {
-    time.as_secs_f64() * 1e9 / rounds as f64
+// What the work gives, and the nanoseconds that one of its rounds takes. The rounds are a number of their own and not the
+// code's, since this needs them without it.
+fn timed<T: Drop, F: FnOnce() -> T>(rt: &HostRuntime, rounds: u32, work: F) -> io::Result<(T, f64)>
+    requires { F.IsAlwaysCallable work }
+{
+    let start = Instant::now(rt)?;
+    let given = work();
+    let time = start.elapsed(rt)?;
+    Ok((given, time.as_secs_f64() * 1e9 / f64::from(rounds)))
 }
 
 fn measure(rt: &HostRuntime, code: ShortCode, rounds: u32) -> io::Result<()> {
-    let start = Instant::now(rt)?;
-    let values = code_many_values(&code, rounds);
-    let value_time = nanoseconds_each(start.elapsed(rt)?, rounds);
-    let start = Instant::now(rt)?;
-    let spans = code_many_spans(&code, rounds);
-    let span_time = nanoseconds_each(start.elapsed(rt)?, rounds);
+    let (values, value_time) = timed(rt, rounds, || code_many_values(&code, rounds))?;
+    let (spans, span_time) = timed(rt, rounds, || code_many_spans(&code, rounds))?;
     println!(rt; "value word: {value_time:.1} ns")?;
     println!(rt; "span word: {span_time:.1} ns")?;
     println!(rt; "matching: {values} values, {spans} spans")
@@ -48,10 +48,10 @@ fn run(rt: &HostRuntime) -> anyhow::Result<()> {
         println!(rt; "usage: speed ROUNDS")?;
         return Ok(());
     };
-    match ShortCode::new(16, 128) {
-        Ok(code) => Ok(measure(rt, code, rounds)?),
-        Err(_) => Err(anyhow!("there is no short code of this setting")),
-    }
+    let code = ShortCode::new(16, 128).map_err(|_| anyhow!(
+        "there is no short code of this setting"
+    ))?;
+    Ok(measure(rt, code, rounds)?)
 }
 
 fn main(rt: HostRuntime) -> anyhow::Result<()> {

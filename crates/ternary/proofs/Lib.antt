@@ -1,8 +1,6 @@
 pub mod Bits
+pub mod Limbs
 pub mod Digits
 pub mod Planes
-pub mod Matching
-pub mod Putting
-pub mod Joining
 pub mod Equality
 pub mod Refuse

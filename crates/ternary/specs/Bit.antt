@@ -1,10 +1,15 @@
--- The binary digits of a number, and of a plane of four 64-bit numbers (limbs).
-use Rattle.std.specs.Prelude.{ℕ, ◌/◌, ◌%◌, ◌^◌, Bool, List, ◌==◌, slice_index}
+-- The binary digits of a number, and lists of 64-bit numbers.
+use Rattle.std.specs.Prelude.{ℕ, ◌/◌, ◌%◌, ◌^◌, ◌<◌, Bool, true, false, not, ◌==◌, List, slice_index}
 
 -- bit i of n
 unfoldable pub bit : ℕ → ℕ → Bool
 bit n i = n / 2 ^ i % 2 == 1
 
--- bit p of a plane: bit p mod 64 of limb p / 64
-unfoldable pub plane_bit : List ℕ → ℕ → Bool
-plane_bit xs p = bit (slice_index xs (p / 64)) (p % 64)
+-- one of two bits is set, and not both
+abbrev pub differs : Bool → Bool → Bool
+differs false b = b
+differs true b = not b
+
+-- each of the four limbs of a plane is a number of 64 bits
+abbrev pub Fitting : List ℕ → Type 0
+Fitting xs = (k : ℕ) → k < 4 → slice_index xs k < 2 ^ 64

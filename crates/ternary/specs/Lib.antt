@@ -1,8 +1,7 @@
 -- definitions
 pub mod Bit
-pub mod Canon
+pub mod Planes
 pub mod Words
-pub mod Limbs
 pub mod Refusals
 -- the proof that `==` of words keeps the laws of a comparison
 pub mod Sameness

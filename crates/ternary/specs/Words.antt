@@ -1,10 +1,11 @@
 -- A word as the list of its 256 digits, when two words match, and how they join.
 use Rattle.std.specs.Prelude.{◌≡◌, ℕ, Bool, true, false, ◌&&◌, Decides, List, [], ◌∷◌, map}
+use Rattle.std.specs.Cmp.Lexicographic.{pointwise}
 use Rattle.std.specs.List.{range_with_len}
 use Rattle.ternary.specs.declared.digit.Digit.{Digit}
 use Rattle.ternary.specs.declared.digit.Digit.TheVariants.{Zero, One, Any}
 use Rattle.ternary.specs.declared.word.Word.{Word}
-use Rattle.ternary.specs.Bit.{plane_bit}
+use Rattle.ternary.specs.Planes.{plane_bit}
 
 -- the digit of a care bit (is it 0 or 1?) and a value bit
 abbrev pub digit_of : Bool → Bool → Digit
@@ -55,16 +56,9 @@ same_digit One One = true
 same_digit Any Any = true
 same_digit d e = false
 
--- two lists of digits have the same length, and the same digit at each place
-abbrev pub same_digits : List Digit → List Digit → Bool
-same_digits [] [] = true
-same_digits [] (y ∷ ys) = false
-same_digits (x ∷ xs) [] = false
-same_digits (x ∷ xs) (y ∷ ys) = same_digit x y && same_digits xs ys
-
 -- what `==` answers: the words have the same digits
 abbrev pub same_word : Word → Word → Bool
-same_word a b = same_digits (digits a) (digits b)
+same_word a b = pointwise same_digit (digits a) (digits b)
 
 -- `==` is true exactly where the digits are equal
 abbrev pub SameLaw : Type 0

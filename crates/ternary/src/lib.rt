@@ -5,5 +5,8 @@
 #![tactic(auto)]
 
 pub mod digit;
+pub mod laws;
+mod plane;
 pub mod refusal;
+pub mod text;
 pub mod word;

@@ -8,23 +8,18 @@ ghost use Rattle.ternary.specs.Refusals.{told, layer_number, RefusalsLaw};
 // The part of the product that refused.
 #[derive(Clone, Copy, PartialEq, Eq, Debug)]
 pub enum Layer {
-    Chip,
-    Code,
-    Sorter,
-    Stream,
+    Chip = 0,
+    Code = 1,
+    Sorter = 2,
+    Stream = 3,
 }
 
 impl Layer {
-    // 0 chip, 1 code, 2 sorter, 3 stream.
+    // A method, and no `From`: a layer is told by number, and not one.
     pub fn number(self) -> u8
         ensures { result ≡ layer_number self }
     {
-        match self {
-            Layer::Chip => 0,
-            Layer::Code => 1,
-            Layer::Sorter => 2,
-            Layer::Stream => 3,
-        }
+        self as u8
     }
 }
 
@@ -44,6 +39,7 @@ pub enum Refusal {
     SpanNotTaken { field: u16 },
 }
 
+// Calls and no `From`: they tell a refusal's number, place and layer, by which the product speaks of it.
 impl Refusal {
     pub fn number(self) -> u8
         ensures { result ≡ (told self).number }
@@ -63,8 +59,8 @@ impl Refusal {
         ensures { result ≡ (told self).place }
     {
         match self {
-            Refusal::NoSuchRow { row } => row as u32,
-            Refusal::OutsideField { field } | Refusal::SpanNotTaken { field } => field as u32,
+            Refusal::NoSuchRow { row } => u32::from(row),
+            Refusal::OutsideField { field } | Refusal::SpanNotTaken { field } => u32::from(field),
             Refusal::BadSetting | Refusal::CodeTooLarge | Refusal::WrongFieldCount => 0,
         }
     }
@@ -84,8 +80,7 @@ impl Refusal {
 }
 
 // A refusal is fixed by its number, place and layer.
-pub fn refusals_law() -> u8
+#[tactic(auto, using(crate::proofs::Refuse::refusals_law))]
+pub fn refusals_law()
     ensures { RefusalsLaw }
-{
-    0
-}
+{}

@@ -35,16 +35,13 @@ fn rule(heap: Global, number: u16, rank: u16, line: u64) -> Rule {
 fn rules_stand_by_rank_and_then_by_number(rt: HostRuntime) {
     let heap = rt.alloc();
     let mut list = RuleList::new(heap);
-    assert!(rt; list.add(rule(heap, 4, 9, 1)).is_ok());
-    assert!(rt; list.add(rule(heap, 5, 1, 2)).is_ok());
-    assert!(rt; list.add(rule(heap, 3, 9, 3)).is_ok());
+    for (line, (number, rank)) in (1..).zip([(4, 9), (5, 1), (3, 9)]) {
+        assert!(rt; list.add(rule(heap, number, rank, line)).is_ok());
+    }
     assert!(rt;
         list.add(rule(heap, 5, 0, 4)).is_err(),
         "number 5 is in use"
     );
-    let mut last = 0;
-    for rule in list.rules() {
-        last = rule.line;
-    }
-    assert_eq!(rt; last, 1, "rank 9 and the higher number");
+    let last = list.rules().last().map(|rule| rule.line);
+    assert_eq!(rt; last, Some(1), "rank 9 and the higher number");
 }

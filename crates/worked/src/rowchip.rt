@@ -1,7 +1,7 @@
 // The row chip on examples: which row answers, what is refused, and what is left of the caller's memory.
 use chips::chip::Chip;
+use chips::row::Row;
 use chips::rows::RowChip;
-use chips::slot::Slot;
 use std::test::Fail;
 use ternary::digit::Digit;
 use ternary::refusal::Refusal;
@@ -15,37 +15,48 @@ fn word(digit: Digit) -> Word {
 }
 
 #[test]
-fn the_lowest_match_answers(rt: HostRuntime) {
+fn the_lowest_match_answers(rt: HostRuntime) -> Result<(), Fail> {
     let one = word(Digit::One);
-    let mut memory = [Slot::Empty; 8];
+    let mut memory = [None; 8];
     let mut chip = RowChip::over(&mut memory);
-    let _ = chip.write(6, &one, 60);
-    let _ = chip.write(3, &one, 30);
-    let _ = chip.write(1, &word(Digit::Zero), 10);
+    chip.write(6, &one, 60)?;
+    chip.write(3, &one, 30)?;
+    chip.write(1, &word(Digit::Zero), 10)?;
     assert_eq!(rt;
         chip.find(&one),
         Some((3, 30)),
         "row 1 does not match, rows 3 and 6 do"
     );
+    Ok(())
 }
 
 #[test]
-fn an_erased_row_is_never_found(rt: HostRuntime) {
-    let mut memory = [Slot::Full(Word::blank(), 5); 1];
+fn an_erased_row_is_never_found(rt: HostRuntime) -> Result<(), Fail> {
+    let mut memory = [Some(Row {
+        word: Word::blank(),
+        tag: 5,
+    }); 1];
     let mut chip = RowChip::over(&mut memory);
-    let _ = chip.erase(0);
+    chip.erase(0)?;
     assert_eq!(rt;
         chip.find(&Word::blank()),
         None,
         "an empty row matches no key, not even one that is all *"
     );
+    Ok(())
 }
 
 #[test]
 fn words_and_keys_of_stars(rt: HostRuntime) {
     let mut memory = [
-        Slot::Full(word(Digit::One), 8),
-        Slot::Full(Word::blank(), 7),
+        Some(Row {
+            word: word(Digit::One),
+            tag: 8,
+        }),
+        Some(Row {
+            word: Word::blank(),
+            tag: 7,
+        }),
     ];
     let chip = RowChip::over(&mut memory);
     assert_eq!(rt;
@@ -61,18 +72,28 @@ fn words_and_keys_of_stars(rt: HostRuntime) {
 }
 
 #[test]
-fn row_255_is_the_last(rt: HostRuntime) {
-    let mut memory = [Slot::Empty; 300];
+fn row_255_is_the_last(rt: HostRuntime) -> Result<(), Fail> {
+    let mut memory = [None; 300];
     let mut chip = RowChip::over(&mut memory);
-    let _ = chip.write(255, &Word::blank(), 7);
+    chip.write(255, &Word::blank(), 7)?;
     assert_eq!(rt; chip.find(&Word::blank()), Some((255, 7)));
-    assert_eq!(rt; memory[255], Slot::Full(Word::blank(), 7));
+    assert_eq!(rt;
+        memory[255],
+        Some(Row {
+            word: Word::blank(),
+            tag: 7
+        })
+    );
+    Ok(())
 }
 
 #[test]
 fn row_256_is_refused(rt: HostRuntime) -> Result<(), Fail> {
-    let mut memory = [Slot::Empty; 300];
-    memory[256] = Slot::Full(Word::blank(), 9);
+    let mut memory = [None; 300];
+    memory[256] = Some(Row {
+        word: Word::blank(),
+        tag: 9,
+    });
     let mut chip = RowChip::over(&mut memory);
     assert_eq!(rt; chip.find(&Word::blank()), None, "slot 256 is not a row");
     let Err(refusal) = chip.write(256, &word(Digit::One), 1) else {
@@ -81,7 +102,10 @@ fn row_256_is_refused(rt: HostRuntime) -> Result<(), Fail> {
     assert_eq!(rt; (refusal.number(), refusal.place()), (1, 256));
     assert_eq!(rt;
         memory[256],
-        Slot::Full(Word::blank(), 9),
+        Some(Row {
+            word: Word::blank(),
+            tag: 9
+        }),
         "behind row 255 the memory is as it was"
     );
     Ok(())
@@ -89,7 +113,7 @@ fn row_256_is_refused(rt: HostRuntime) -> Result<(), Fail> {
 
 #[test]
 fn a_chip_over_no_rows(rt: HostRuntime) {
-    let mut memory = [Slot::Empty; 0];
+    let mut memory = [None; 0];
     let chip = RowChip::over(&mut memory);
     assert_eq!(rt; (chip.count(), chip.find(&Word::blank())), (0, None));
     assert_eq!(rt; chip.read(0), Err(Refusal::NoSuchRow { row: 0 }));
@@ -98,7 +122,7 @@ fn a_chip_over_no_rows(rt: HostRuntime) {
 #[test]
 fn rows_are_as_the_memory_was_and_a_refusal_leaves_them(rt: HostRuntime) {
     let one = word(Digit::One);
-    let mut memory = [Slot::Empty, Slot::Full(one, 9)];
+    let mut memory = [None, Some(Row { word: one, tag: 9 })];
     let mut chip = RowChip::over(&mut memory);
     assert_eq!(rt;
         chip.write(2, &Word::blank(), 1),
@@ -106,7 +130,7 @@ fn rows_are_as_the_memory_was_and_a_refusal_leaves_them(rt: HostRuntime) {
     );
     assert_eq!(rt;
         (chip.read(0), chip.read(1)),
-        (Ok(Slot::Empty), Ok(Slot::Full(one, 9)))
+        (Ok(None), Ok(Some(Row { word: one, tag: 9 })))
     );
     assert_eq!(rt; chip.find(&one), Some((1, 9)));
 }

@@ -13,14 +13,13 @@ use ternary::word::Word;
 // The word whose digits are written so from digit 1 on; all others are *.
 fn word_of(digits: &str) -> Word {
     let mut word = Word::blank();
-    let mut at = 1u8;
-    for symbol in digits.chars() {
-        match symbol {
-            '0' => word.put(at, Digit::Zero),
-            '1' => word.put(at, Digit::One),
-            _ => word.put(at, Digit::Any),
-        }
-        at = at.wrapping_add(1);
+    for (at, symbol) in (1..=255u8).zip(digits.chars()) {
+        let digit = match symbol {
+            '0' => Digit::Zero,
+            '1' => Digit::One,
+            _ => Digit::Any,
+        };
+        word.put(at, digit);
     }
     word
 }

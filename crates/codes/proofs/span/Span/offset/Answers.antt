@@ -6,5 +6,5 @@ use Rattle.codes.proofs.span.Span.offset.Goals as goal
 pub returns : goal.returns
 returns c =
     let v = c.args.value in let s = c.args.self.low in
-    ap (λ (n : ℕ). bit_and ((v + (65536 - s)) % 65536) n) c.highest.ensures
+    c.from.ensures ∙ ap (λ (n : ℕ). bit_and ((v + (65536 - s)) % 65536) n) c.highest.ensures
     ∙ masked_offset c.args.width.bits c.args.width.most v s (omega arith)
