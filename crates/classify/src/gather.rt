@@ -87,7 +87,11 @@ pub fn gather<F: FieldCode>(rt: &HostRuntime, code: &F) -> io::Result<Input> {
     let mut input = Input::new(heap);
     let reader = BufReader::new(heap, rt.stdin())?;
     for (line, bytes) in (1..).zip(reader.split(heap, b'\n')) {
-        let text = String::from_utf8_lossy(heap, bytes?.as_slice())?;
+        // a line's bytes are its text, and copied only where they are not UTF-8
+        let text = match String::from_utf8(bytes?) {
+            Ok(text) => text,
+            Err(e) => String::from_utf8_lossy(heap, e.as_bytes())?,
+        };
         input.keep(line, parse_line(heap, code, line, text.as_str()))?;
     }
     Ok(input)

@@ -1,5 +1,5 @@
 -- The order of rules, and what a list of them keeps.
-use Rattle.std.specs.Prelude.{◌≡◌, ℕ, ◌<◌, ◌≤◌, Bool, true, cond, List, length, get_or, ◌==◌, ◌≢◌, nat_lt}
+use Rattle.std.specs.Prelude.{◌≡◌, ℕ, ◌<◌, ◌≤◌, Bool, true, false, cond, List, length, get_or, ◌==◌, ◌≢◌, nat_lt, slice_index_or}
 use Rattle.std.specs.List.{All, AllPairs, insert}
 use Rattle.listing.specs.declared.rule.Rule.{Rule}
 
@@ -22,6 +22,12 @@ Unused n rs = All (λ r. r.number ≢ n) rs
 -- a rule that stands in line l has the number n
 abbrev pub Used : ℕ → ℕ → List Rule → Type 0
 Used n l rs = (i : ℕ) × (i < length rs) × ((d : Rule) → ((get_or rs i d).number ≡ n) × ((get_or rs i d).line ≡ l))
+
+-- the rules below place k come before r, and the one at k does not
+pub record Place (rs : List Rule) (r : Rule) (k : ℕ) : Type 0 where
+  pub within : k ≤ length rs
+  pub below : (i : ℕ) (d : Rule) → i < k → before (slice_index_or rs i d) r ≡ true
+  pub stops : (d : Rule) → k < length rs → before (slice_index_or rs k d) r ≡ false
 
 -- the new list is the old one with r at one place
 pub record Joined (old : List Rule) (r : Rule) (new : List Rule) : Type 0 where

@@ -142,13 +142,19 @@ power_from (suc w) j n h e =
     ⊎_elim (λ (x : j ≡ suc w). or_left (n == 2 ^ suc w) (power w n) (eq-eqb n (2 ^ suc w) (e ∙ ap (λ (i : ℕ). 2 ^ i) x)))
     (λ ne. or_right (n == 2 ^ suc w) (power w n) (power_from w j n (omega (arith, ne)) e)) (cases_eq j (suc w))
 
+-- a number between two powers of 2
+pub power_log : (w n k : ℕ) → 2 ^ k ≤ n → n < 2 * 2 ^ k → (2 ^ k == n && nat_le k w) ≡ power w n
+power_log w n k lo hi =
+    same_from_decides {P = (n ≡ 2 ^ k) × (k ≤ w)} _ _
+    ((λ e. let p = and_parts (2 ^ k == n) (nat_le k w) e in (sym (eqb-true (2 ^ k) n p.0), leb-true k w p.1)), (λ p. and_from (2 ^ k == n) (nat_le k w) (eq-eqb (2 ^ k) n (sym p.0)) (le-leb k w p.1)))
+    ((λ e. let j = power_is w n e in let x = exponent k j.0 n lo hi j.2 in (j.2 ∙ ap (λ (i : ℕ). 2 ^ i) x, omega (arith, j.1))), (λ p. power_from w k n p.1 p.0))
+
 -- a number of which one binary digit is set, with the logarithm k
-pub power_log : (w n k : ℕ) → is_power_of_two n ≡ true → 2 ^ k ≤ n → n < 2 * 2 ^ k → nat_le k w ≡ power w n
-power_log w n k one lo hi =
+pub power_log_alone : (w n k : ℕ) → is_power_of_two n ≡ true → 2 ^ k ≤ n → n < 2 * 2 ^ k → nat_le k w ≡ power w n
+power_log_alone w n k one lo hi =
     let p = one_digit n n (omega arith) (eqb-true (count_ones n) 1 one) in
-    let e = exponent k p.0 n lo hi p.1 in
-    same_from_decides {P = k ≤ w} _ _ (leb-true k w, le-leb k w)
-    ((λ t. let j = power_is w n t in let x = exponent k j.0 n lo hi j.2 in omega (arith, j.1)), (λ h. power_from w k n h (p.1 ∙ ap (λ (i : ℕ). 2 ^ i) e)))
+    let e : 2 ^ k ≡ n = sym (p.1 ∙ ap (λ (i : ℕ). 2 ^ i) (exponent k p.0 n lo hi p.1)) in
+    sym (ap (λ (b : Bool). b && nat_le k w) (eq-eqb (2 ^ k) n e)) ∙ power_log w n k lo hi
 
 pub no_power : (w n : ℕ) → is_power_of_two n ≡ false → false ≡ power w n
 no_power w n none = by (power w n) refl

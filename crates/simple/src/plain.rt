@@ -50,7 +50,7 @@ impl PlainCode {
 }
 
 // Whether n is 2^j for some j up to the width.
-#[tactic(auto, using(crate::specs::Plains::power_log, crate::specs::Plains::no_power))]
+#[tactic(auto, using(crate::specs::Plains::power_log_alone, crate::specs::Plains::no_power))]
 fn is_power(width: Width, n: u32) -> bool
     ensures { result ≡ power (bits_of width) n }
 {

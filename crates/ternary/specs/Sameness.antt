@@ -1,5 +1,5 @@
 -- The test for the same digits decides whether two words' digits are equal, and so it is an equivalence.
-use Rattle.std.specs.Prelude.{◌≡◌, true, false, Decides, refl}
+use Rattle.std.specs.Prelude.{◌≡◌, true, false, List, Decides, refl}
 use Rattle.std.specs.Cmp.{IsEquivalence, decided, on_equiv}
 use Rattle.std.specs.Cmp.Lexicographic.{pointwise, pointwise_decides}
 use Rattle.std.proofs.Common.{sym}
@@ -22,8 +22,14 @@ digit_decides Any Zero = (differ, λ e. cc)
 digit_decides Any One = (differ, λ e. cc)
 digit_decides Any Any = (λ t. refl, λ e. refl)
 
+pub digits_decide : (xs ys : List Digit) → Decides (pointwise same_digit xs ys) (xs ≡ ys)
+digits_decide = pointwise_decides digit_decides
+
+same_digits_equiv : IsEquivalence (pointwise same_digit)
+same_digits_equiv = decided (pointwise same_digit) digits_decide
+
 pub same_word_equiv : IsEquivalence same_word
-same_word_equiv = on_equiv digits (decided (pointwise same_digit) (pointwise_decides digit_decides))
+same_word_equiv = on_equiv digits same_digits_equiv
 
 pub same_law : SameLaw
-same_law a b = pointwise_decides digit_decides (digits a) (digits b)
+same_law a b = digits_decide (digits a) (digits b)
